@@ -14,9 +14,10 @@ use Rattle.lynx_code.specs.declared.instruction.Literal.TheVariants as literal
 use Rattle.lynx_packets.specs.declared.value.RtValue.TheVariants as values
 use Rattle.end_protocol.specs.Deeds.{Deed, Issued, Accepted, Replied, Returned}
 use Rattle.process_run.specs.States.{Module, DeedOn}
-use Rattle.process_run.proofs.Modules.{op, entry, module, end, runs, deeds_in, ok, came, taken, request, reply, numbered, int}
+use Rattle.process_run.proofs.Modules.{op, entry, module_with, end, runs, deeds_in, ok, came, taken, request, reply, numbered, int}
 use Rattle.std.specs.Fmt.{digits}
 use Rattle.charlotte_calls.specs.EndEq.{end_eq}
+use Rattle.lynx_lexer.specs.Slots.{keyword_at}
 use Rattle.lynx_packets.specs.Packets.{packet_of, request_of, reply_of, numbered_of, enc_of}
 use Rattle.lynx_packets.specs.Reading.{number_at, int_at, int_value, typed_at, arguments_at, value_at, values_at}
 use Rattle.lynx_packets.specs.Spelling.{int_text, number_text, value_text, spelling}
@@ -42,7 +43,7 @@ pong = codes "pong():()"
 
 abbrev unbound : Module
 unbound =
-    module (types.Link ∷ types.Link ∷ []) (op ping [] [] ∷ op pong [] [] ∷ []) (entry 7 0 [] ∷ [])
+    module_with (types.Link ∷ types.Link ∷ []) (op ping [] [] ∷ op pong [] [] ∷ []) (entry 7 0 [] ∷ [])
     (code.LoadG 0 ∷ code.Bind 0 ∷ code.LoadG 0 ∷ code.Unbind 0 ∷ code.LoadG 1 ∷ code.Connect 1 ∷ code.End ∷ code.Reply 0 ∷ code.End ∷ [])
 
 -- the Cancel comes too late, and a request comes that is not wanted any more
@@ -53,14 +54,6 @@ abbrev sends_it_back : List Next
 sends_it_back =
     Ask (Receive (end 0)) ∷ Ask (Cancel (end 0) Inward) ∷ Ask (Send (end 1) (request pong []) []) ∷ Ask (Receive (end 1)) ∷ Ask Wait
     ∷ Ask (Send (end 0) (numbered 3) []) ∷ []
-
-pub a_late_cancel_in_version_1 : runs 1 unbound (end 0 ∷ end 1 ∷ []) told_late ≡ sends_it_back
-unfolding packet_of request_of reply_of numbered_of enc_of number_at int_at int_value value_at values_at typed_at arguments_at signature_at name_at types_at next_spot type_told word_begun number_text int_text spelling value_text digits asked lined_up replied due_call allows sent is_readable accepted let_come forbade gone_on is_needed taker is_busy queued dies fallen dies_at destroys settles end_eq
-a_late_cancel_in_version_1 = refl
-
-pub a_late_cancel_in_version_2 : runs 2 unbound (end 0 ∷ end 1 ∷ []) told_late ≡ sends_it_back
-unfolding packet_of request_of reply_of numbered_of enc_of number_at int_at int_value value_at values_at typed_at arguments_at signature_at name_at types_at next_spot type_told word_begun number_text int_text spelling value_text digits asked lined_up replied due_call allows sent is_readable accepted let_come forbade gone_on is_needed taker is_busy queued dies fallen dies_at destroys settles end_eq
-a_late_cancel_in_version_2 = refl
 
 -- ---- a request and its reply
 
@@ -73,7 +66,7 @@ deed_on x d = record { on = x; deed = d }
 -- op double (int) : (int); param l : link; var r : int; begin connect double on l (21) : (r); write r; end.
 abbrev asking : Module
 asking =
-    module (types.Link ∷ types.Int ∷ []) (op double (types.Int ∷ []) (types.Int ∷ []) ∷ []) []
+    module_with (types.Link ∷ types.Int ∷ []) (op double (types.Int ∷ []) (types.Int ∷ []) ∷ []) []
     (code.Push (literal.Int (pos 21)) ∷ code.LoadG 0 ∷ code.Connect 0 ∷ code.StoreG 1 ∷ code.LoadG 1 ∷ code.Write ∷ code.End ∷ [])
 
 abbrev told_asking : List (Option Answer)
@@ -83,22 +76,10 @@ abbrev asks_and_writes : List Next
 asks_and_writes =
     Ask (Send (end 0) (request double (int 21)) []) ∷ Ask (Receive (end 0)) ∷ Ask Wait ∷ Ask Wait ∷ Ask (Print (codes "42")) ∷ Ask Exit ∷ Ended ∷ []
 
-pub it_asks_in_version_1 : runs 1 asking (end 0 ∷ []) told_asking ≡ asks_and_writes
-unfolding packet_of request_of reply_of numbered_of enc_of number_at int_at int_value value_at values_at typed_at arguments_at signature_at name_at types_at next_spot type_told word_begun number_text int_text spelling value_text digits asked lined_up replied due_call allows sent is_readable accepted let_come forbade gone_on is_needed taker is_busy queued dies fallen dies_at destroys settles end_eq
-it_asks_in_version_1 = refl
-
-pub it_asks_in_version_2 : runs 2 asking (end 0 ∷ []) told_asking ≡ asks_and_writes
-unfolding packet_of request_of reply_of numbered_of enc_of number_at int_at int_value value_at values_at typed_at arguments_at signature_at name_at types_at next_spot type_told word_begun number_text int_text spelling value_text digits asked lined_up replied due_call allows sent is_readable accepted let_come forbade gone_on is_needed taker is_busy queued dies fallen dies_at destroys settles end_eq
-it_asks_in_version_2 = refl
-
-pub it_issued_and_returned : deeds_in 1 asking (end 0 ∷ []) told_asking ≡ deed_on (end 0) (Issued 1 double (values.Int (pos 21) ∷ []) []) ∷ deed_on (end 0) (Returned 1 0 (values.Int (pos 42) ∷ []) []) ∷ []
-unfolding packet_of request_of reply_of numbered_of enc_of number_at int_at int_value value_at values_at typed_at arguments_at signature_at name_at types_at next_spot type_told word_begun number_text int_text spelling value_text digits asked lined_up replied due_call allows sent is_readable accepted let_come forbade gone_on is_needed taker is_busy queued dies fallen dies_at destroys settles end_eq
-it_issued_and_returned = refl
-
 -- op double (int) : (int); param l : link; entry e of double (x) begin reply (x + x); end; begin bind l to e; end.
 abbrev serving : Module
 serving =
-    module (types.Link ∷ []) (op double (types.Int ∷ []) (types.Int ∷ []) ∷ []) (entry 3 0 (types.Int ∷ []) ∷ [])
+    module_with (types.Link ∷ []) (op double (types.Int ∷ []) (types.Int ∷ []) ∷ []) (entry 3 0 (types.Int ∷ []) ∷ [])
     (code.LoadG 0 ∷ code.Bind 0 ∷ code.End ∷ code.LoadL 0 ∷ code.LoadL 0 ∷ code.Add ∷ code.Reply 1 ∷ code.End ∷ [])
 
 abbrev told_serving : List (Option Answer)
@@ -108,18 +89,6 @@ told_serving = None ∷ ok ∷ came (end 1) (request double (int 21)) [] ∷ ok 
 abbrev serves : List Next
 serves =
     Ask (Receive (end 1)) ∷ Ask Wait ∷ Ask (Receive (end 1)) ∷ Ask (Send (end 1) (reply 0 (int 42)) []) ∷ Ask Wait ∷ Ask Wait ∷ []
-
-pub it_serves_in_version_1 : runs 1 serving (end 1 ∷ []) told_serving ≡ serves
-unfolding packet_of request_of reply_of numbered_of enc_of number_at int_at int_value value_at values_at typed_at arguments_at signature_at name_at types_at next_spot type_told word_begun number_text int_text spelling value_text digits asked lined_up replied due_call allows sent is_readable accepted let_come forbade gone_on is_needed taker is_busy queued dies fallen dies_at destroys settles end_eq
-it_serves_in_version_1 = refl
-
-pub it_serves_in_version_2 : runs 2 serving (end 1 ∷ []) told_serving ≡ serves
-unfolding packet_of request_of reply_of numbered_of enc_of number_at int_at int_value value_at values_at typed_at arguments_at signature_at name_at types_at next_spot type_told word_begun number_text int_text spelling value_text digits asked lined_up replied due_call allows sent is_readable accepted let_come forbade gone_on is_needed taker is_busy queued dies fallen dies_at destroys settles end_eq
-it_serves_in_version_2 = refl
-
-pub it_accepted_and_replied : deeds_in 2 serving (end 1 ∷ []) told_serving ≡ deed_on (end 1) (Accepted 1 double (values.Int (pos 21) ∷ []) []) ∷ deed_on (end 1) (Replied 1 0 (values.Int (pos 42) ∷ []) []) ∷ []
-unfolding packet_of request_of reply_of numbered_of enc_of number_at int_at int_value value_at values_at typed_at arguments_at signature_at name_at types_at next_spot type_told word_begun number_text int_text spelling value_text digits asked lined_up replied due_call allows sent is_readable accepted let_come forbade gone_on is_needed taker is_busy queued dies fallen dies_at destroys settles end_eq
-it_accepted_and_replied = refl
 
 -- ---- two ends in a request
 
@@ -132,16 +101,11 @@ two_links = 5 ∷ 5 ∷ []
 -- op give (link, link) : (); param l : link; param x : link; param y : link; begin connect give on l (x, y) : (); end.
 abbrev giving : Module
 giving =
-    module (types.Link ∷ types.Link ∷ types.Link ∷ []) (op give (types.Link ∷ types.Link ∷ []) [] ∷ []) []
+    module_with (types.Link ∷ types.Link ∷ types.Link ∷ []) (op give (types.Link ∷ types.Link ∷ []) [] ∷ []) []
     (code.LoadG 1 ∷ code.LoadG 2 ∷ code.LoadG 0 ∷ code.Connect 0 ∷ code.End ∷ [])
 
 abbrev three : List EndId
 three = end 0 ∷ end 1 ∷ end 2 ∷ []
-
--- in version 2 both go with the request
-pub it_gives_in_version_2 : runs 2 giving three (None ∷ ok ∷ ok ∷ taken (end 0) ∷ came (end 0) (reply 0 []) [] ∷ ok ∷ []) ≡ Ask (Send (end 0) (request give two_links) (end 1 ∷ end 2 ∷ [])) ∷ Ask (Receive (end 0)) ∷ Ask Wait ∷ Ask Wait ∷ Ask Exit ∷ Ended ∷ []
-unfolding packet_of request_of reply_of numbered_of enc_of number_at int_at int_value value_at values_at typed_at arguments_at signature_at name_at types_at next_spot type_told word_begun number_text int_text spelling value_text digits asked lined_up replied due_call allows sent is_readable accepted let_come forbade gone_on is_needed taker is_busy queued dies fallen dies_at destroys settles end_eq
-it_gives_in_version_2 = refl
 
 -- the enc of the second
 abbrev enc : List ℕ
@@ -153,20 +117,12 @@ gives_in_part =
     Ask (Send (end 0) (request give two_links) (end 1 ∷ [])) ∷ Ask (Receive (end 0)) ∷ Ask Wait ∷ Ask Wait ∷ Ask (Send (end 0) enc (end 2 ∷ []))
     ∷ Ask (Receive (end 0)) ∷ Ask Wait ∷ Ask Wait ∷ Ask Exit ∷ Ended ∷ []
 
-pub it_gives_in_version_1 : runs 1 giving three (None ∷ ok ∷ ok ∷ taken (end 0) ∷ came (end 0) (numbered 6) [] ∷ ok ∷ ok ∷ taken (end 0) ∷ came (end 0) (reply 0 []) [] ∷ ok ∷ []) ≡ gives_in_part
-unfolding packet_of request_of reply_of numbered_of enc_of number_at int_at int_value value_at values_at typed_at arguments_at signature_at name_at types_at next_spot type_told word_begun number_text int_text spelling value_text digits asked lined_up replied due_call allows sent is_readable accepted let_come forbade gone_on is_needed taker is_busy queued dies fallen dies_at destroys settles end_eq
-it_gives_in_version_1 = refl
-
 -- op give (link, link) : (); param l : link; var p : link; var q : link;
 -- begin accept give on l (p, q) do reply (); end; destroy q; end.
 abbrev taking : Module
 taking =
-    module (types.Link ∷ types.Link ∷ types.Link ∷ []) (op give (types.Link ∷ types.Link ∷ []) [] ∷ []) []
+    module_with (types.Link ∷ types.Link ∷ types.Link ∷ []) (op give (types.Link ∷ types.Link ∷ []) [] ∷ []) []
     (code.LoadG 0 ∷ code.Accept 0 ∷ code.StoreG 2 ∷ code.StoreG 1 ∷ code.Reply 0 ∷ code.Close ∷ code.LoadG 2 ∷ code.Destroy ∷ code.End ∷ [])
-
-pub it_takes_in_version_2 : runs 2 taking (end 9 ∷ []) (None ∷ ok ∷ came (end 9) (request give two_links) (end 1 ∷ end 2 ∷ []) ∷ ok ∷ ok ∷ taken (end 9) ∷ ok ∷ []) ≡ Ask (Receive (end 9)) ∷ Ask Wait ∷ Ask (Send (end 9) (reply 0 []) []) ∷ Ask (Destroy (end 2)) ∷ Ask Wait ∷ Ask Exit ∷ Ended ∷ []
-unfolding packet_of request_of reply_of numbered_of enc_of number_at int_at int_value value_at values_at typed_at arguments_at signature_at name_at types_at next_spot type_told word_begun number_text int_text spelling value_text digits asked lined_up replied due_call allows sent is_readable accepted let_come forbade gone_on is_needed taker is_busy queued dies fallen dies_at destroys settles end_eq
-it_takes_in_version_2 = refl
 
 -- a request in part needs a Receive, and is accepted with its last end
 abbrev takes_in_part : List Next
@@ -174,15 +130,11 @@ takes_in_part =
     Ask (Receive (end 9)) ∷ Ask Wait ∷ Ask (Send (end 9) (numbered 6) []) ∷ Ask (Receive (end 9)) ∷ Ask Wait ∷ Ask Wait
     ∷ Ask (Send (end 9) (reply 0 []) []) ∷ Ask (Destroy (end 2)) ∷ Ask Wait ∷ Ask Exit ∷ Ended ∷ []
 
-pub it_takes_in_version_1 : runs 1 taking (end 9 ∷ []) (None ∷ ok ∷ came (end 9) (request give two_links) (end 1 ∷ []) ∷ ok ∷ ok ∷ taken (end 9) ∷ came (end 9) enc (end 2 ∷ []) ∷ ok ∷ ok ∷ taken (end 9) ∷ ok ∷ []) ≡ takes_in_part
-unfolding packet_of request_of reply_of numbered_of enc_of number_at int_at int_value value_at values_at typed_at arguments_at signature_at name_at types_at next_spot type_told word_begun number_text int_text spelling value_text digits asked lined_up replied due_call allows sent is_readable accepted let_come forbade gone_on is_needed taker is_busy queued dies fallen dies_at destroys settles end_eq
-it_takes_in_version_1 = refl
-
 -- ---- retry, forbid and allow
 
 -- op pong () : (); param b : link; begin connect pong on b () : (); end.
 abbrev connecting : Module
-connecting = module (types.Link ∷ []) (op pong [] [] ∷ []) [] (code.LoadG 0 ∷ code.Connect 0 ∷ code.End ∷ [])
+connecting = module_with (types.Link ∷ []) (op pong [] [] ∷ []) [] (code.LoadG 0 ∷ code.Connect 0 ∷ code.End ∷ [])
 
 -- another's request comes meanwhile and is forbidden; its own comes back by a retry, then by a forbid and an allow. When its reply is there no
 -- Receive is needed any more, and the other's request is allowed again
@@ -201,6 +153,43 @@ is_patient =
     ∷ sends_pong (Ask Wait ∷ Ask (Receive (end 0)) ∷ Ask Wait
     ∷ sends_pong (Ask Wait ∷ Ask (Send (end 0) (numbered 5) []) ∷ Ask Wait ∷ Ask Exit ∷ Ended ∷ [])))
 
-pub it_is_patient : runs 2 connecting (end 0 ∷ []) told_much ≡ is_patient
-unfolding packet_of request_of reply_of numbered_of enc_of number_at int_at int_value value_at values_at typed_at arguments_at signature_at name_at types_at next_spot type_told word_begun number_text int_text spelling value_text digits asked lined_up replied due_call allows sent is_readable accepted let_come forbade gone_on is_needed taker is_busy queued dies fallen dies_at destroys settles end_eq
-it_is_patient = refl
+-- ---- what comes of these runs
+
+pub record Worked : Type 0 where
+  -- ---- a bind and an unbind
+  pub a_late_cancel_in_version_1 : runs 1 unbound (end 0 ∷ end 1 ∷ []) told_late ≡ sends_it_back
+  pub a_late_cancel_in_version_2 : runs 2 unbound (end 0 ∷ end 1 ∷ []) told_late ≡ sends_it_back
+  -- ---- a request and its reply
+  pub it_asks_in_version_1 : runs 1 asking (end 0 ∷ []) told_asking ≡ asks_and_writes
+  pub it_asks_in_version_2 : runs 2 asking (end 0 ∷ []) told_asking ≡ asks_and_writes
+  pub it_issued_and_returned : deeds_in 1 asking (end 0 ∷ []) told_asking ≡ deed_on (end 0) (Issued 1 double (values.Int (pos 21) ∷ []) []) ∷ deed_on (end 0) (Returned 1 0 (values.Int (pos 42) ∷ []) []) ∷ []
+  pub it_serves_in_version_1 : runs 1 serving (end 1 ∷ []) told_serving ≡ serves
+  pub it_serves_in_version_2 : runs 2 serving (end 1 ∷ []) told_serving ≡ serves
+  pub it_accepted_and_replied : deeds_in 2 serving (end 1 ∷ []) told_serving ≡ deed_on (end 1) (Accepted 1 double (values.Int (pos 21) ∷ []) []) ∷ deed_on (end 1) (Replied 1 0 (values.Int (pos 42) ∷ []) []) ∷ []
+  -- ---- two ends in a request
+  -- in version 2 both go with the request
+  pub it_gives_in_version_2 : runs 2 giving three (None ∷ ok ∷ ok ∷ taken (end 0) ∷ came (end 0) (reply 0 []) [] ∷ ok ∷ []) ≡ Ask (Send (end 0) (request give two_links) (end 1 ∷ end 2 ∷ [])) ∷ Ask (Receive (end 0)) ∷ Ask Wait ∷ Ask Wait ∷ Ask Exit ∷ Ended ∷ []
+  pub it_gives_in_version_1 : runs 1 giving three (None ∷ ok ∷ ok ∷ taken (end 0) ∷ came (end 0) (numbered 6) [] ∷ ok ∷ ok ∷ taken (end 0) ∷ came (end 0) (reply 0 []) [] ∷ ok ∷ []) ≡ gives_in_part
+  pub it_takes_in_version_2 : runs 2 taking (end 9 ∷ []) (None ∷ ok ∷ came (end 9) (request give two_links) (end 1 ∷ end 2 ∷ []) ∷ ok ∷ ok ∷ taken (end 9) ∷ ok ∷ []) ≡ Ask (Receive (end 9)) ∷ Ask Wait ∷ Ask (Send (end 9) (reply 0 []) []) ∷ Ask (Destroy (end 2)) ∷ Ask Wait ∷ Ask Exit ∷ Ended ∷ []
+  pub it_takes_in_version_1 : runs 1 taking (end 9 ∷ []) (None ∷ ok ∷ came (end 9) (request give two_links) (end 1 ∷ []) ∷ ok ∷ ok ∷ taken (end 9) ∷ came (end 9) enc (end 2 ∷ []) ∷ ok ∷ ok ∷ taken (end 9) ∷ ok ∷ []) ≡ takes_in_part
+  -- ---- retry, forbid and allow
+  pub it_is_patient : runs 2 connecting (end 0 ∷ []) told_much ≡ is_patient
+
+pub worked : Worked
+unfolding packet_of request_of reply_of numbered_of enc_of number_at int_at int_value value_at values_at typed_at arguments_at signature_at name_at keyword_at types_at next_spot type_told word_begun number_text int_text spelling value_text digits asked lined_up replied due_call allows sent is_readable accepted let_come forbade gone_on is_needed taker is_busy queued dies fallen dies_at destroys settles end_eq
+worked =
+    record {
+      a_late_cancel_in_version_1 = refl;
+      a_late_cancel_in_version_2 = refl;
+      it_asks_in_version_1 = refl;
+      it_asks_in_version_2 = refl;
+      it_issued_and_returned = refl;
+      it_serves_in_version_1 = refl;
+      it_serves_in_version_2 = refl;
+      it_accepted_and_replied = refl;
+      it_gives_in_version_2 = refl;
+      it_gives_in_version_1 = refl;
+      it_takes_in_version_2 = refl;
+      it_takes_in_version_1 = refl;
+      it_is_patient = refl;
+    }

@@ -1,5 +1,5 @@
 -- Small modules as code, and what is told to processes that run them.
-use Rattle.std.specs.Prelude.{ℕ, suc, List, [], ◌∷◌, ◌++◌, codes, Option, None, Some}
+use Rattle.std.specs.Prelude.{ℕ, suc, List, [], ◌∷◌, ◌++◌, Option, None, Some}
 use Rattle.charlotte_calls.specs.declared.calls.Answer.{Answer}
 use Rattle.charlotte_calls.specs.declared.calls.Answer.TheVariants as answer
 use Rattle.charlotte_calls.specs.declared.names.EndId.{EndId}
@@ -9,10 +9,7 @@ use Rattle.charlotte_calls.specs.declared.names.Way.TheVariants.{Inward, Outward
 use Rattle.charlotte_calls.specs.declared.program.Next.{Next}
 use Rattle.charlotte_calls.specs.Program.{steps}
 use Rattle.lynx_tree.specs.declared.declaration.TypeName.{TypeName}
-use Rattle.lynx_tree.specs.declared.declaration.TypeName.TheVariants as types
 use Rattle.lynx_code.specs.declared.instruction.Instruction.{Instruction}
-use Rattle.lynx_code.specs.declared.instruction.Instruction.TheVariants as code
-use Rattle.lynx_code.specs.declared.instruction.Literal.TheVariants as literal
 use Rattle.code_shapes.specs.Shapes.{PartTypes}
 use Rattle.lynx_meaning.specs.Needs.{OpTypes}
 use Rattle.process_run.specs.States.{Module, DeedOn, start_of}
@@ -47,8 +44,8 @@ abbrev pub count : {X : Type 0} → List X → ℕ
 count [] = 0
 count (x ∷ xs) = suc (count xs)
 
-abbrev pub module : List TypeName → List Op → List PartTypes → List Instruction → Module
-module globals ops entries instructions =
+abbrev pub module_with : List TypeName → List Op → List PartTypes → List Instruction → Module
+module_with globals ops entries instructions =
     record {
       instructions = instructions;
       types = record { globals = globals; ops = types_of ops; entries = count entries };

@@ -1,9 +1,7 @@
 -- What a process does with the actions of its threads (rules 7 and 8). Those that are calls themselves are not here.
-use Rattle.std.specs.Prelude.{ℕ, suc, ◌+◌, ◌==◌, Bool, true, false, ◌||◌, if◌then◌else◌, List, [], ◌∷◌, drop, Option, None, Some, slice_get, slice_set}
+use Rattle.std.specs.Prelude.{ℕ, suc, ◌==◌, Bool, true, false, ◌||◌, if◌then◌else◌, List, [], ◌∷◌, Option, None, Some, slice_get, slice_set}
 use Rattle.std.specs.List.{list_any}
-use Rattle.charlotte_calls.specs.declared.names.EndId.{EndId}
 use Rattle.charlotte_calls.specs.EndEq.{same_link}
-use Rattle.lynx_tree.specs.declared.declaration.TypeName.{TypeName}
 use Rattle.typing_rules.specs.declared.exception.Exception.{Exception}
 use Rattle.typing_rules.specs.declared.exception.Exception.TheVariants as exceptions
 use Rattle.code_shapes.specs.Shapes.{PartTypes}
@@ -87,7 +85,7 @@ asking thread op signature vs s =
       number = 0;
       signature = signature;
       values = values_of vs;
-      results = types_of (λ o. o.results) (slice_get s.module.types.ops op);
+      results = types_of (λ o. o.results) (slice_get s.code.types.ops op);
       ends = ends_at (links_in vs) s;
     }
 
@@ -155,19 +153,19 @@ closes thread (o ∷ os) s = and_then (fails o (held_at o.on s) s) (λ t. does t
 abbrev pub acts : ℕ → Action → State → Done
 acts thread (Destroy link) s = on_held thread (held_at (link_of link) s) s (λ h. quietly (does thread (destroys h s)))
 acts thread (Bind link entry) s =
-    with_signature thread (served s.module entry) s
+    with_signature thread (served s.code entry) s
     (λ signature. on_held thread (held_at (link_of link) s) s
     (λ h. on_live h.kept.dead thread s
     (quietly (does thread (keeps h (binds (record { entry = entry; signature = signature }) h.kept) s)))))
 acts thread (Unbind link entry) s =
-    with_signature thread (served s.module entry) s
+    with_signature thread (served s.code entry) s
     (λ signature. on_held thread (held_at (link_of link) s) s (λ h. quietly (does thread (keeps h (unbinds entry h.kept) s))))
 acts thread (actions.Connect link op vs) s =
-    with_signature thread (slice_get s.module.signatures op) s
+    with_signature thread (slice_get s.code.signatures op) s
     (λ signature. on_held thread (held_at (link_of link) s) s
     (λ h. on_live h.kept.dead thread s (tested thread h vs s (issues (asking thread op signature vs s) h vs s))))
 acts thread (actions.Accept link op) s =
-    with_signature thread (slice_get s.module.signatures op) s
+    with_signature thread (slice_get s.code.signatures op) s
     (λ signature. on_held thread (held_at (link_of link) s) s
     (λ h. on_live h.kept.dead thread s
     (quietly (keeps h (accepts_too (record { thread = thread; signature = signature }) h.kept) s))))

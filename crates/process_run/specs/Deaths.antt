@@ -1,6 +1,5 @@
 -- Links that die (rule 9), and outcomes.
-use Rattle.std.specs.Prelude.{ℕ, List, [], ◌∷◌, ◌++◌, Ok, Err}
-use Rattle.charlotte_calls.specs.declared.names.EndId.{EndId}
+use Rattle.std.specs.Prelude.{ℕ, List, [], ◌∷◌, Ok, Err}
 use Rattle.typing_rules.specs.declared.exception.Exception.{Exception}
 use Rattle.typing_rules.specs.declared.exception.Exception.TheVariants as exceptions
 use Rattle.lynx_meaning.specs.Courses.{Outcome}
@@ -8,7 +7,7 @@ use Rattle.machine_turns.specs.Turns.{given_to}
 use Rattle.end_protocol.specs.declared.falling.Fallen.{Fallen}
 use Rattle.end_protocol.specs.Falling.{dies, fallen, held_again, destroyed, raised}
 use Rattle.end_protocol.specs.Going.{returns}
-use Rattle.process_run.specs.States.{Holding, Keeps, Gone, Held, State}
+use Rattle.process_run.specs.States.{Keeps, Gone, Held, State}
 use Rattle.process_run.specs.Ends.{puts, holds_again, dooms}
 
 -- ---- outcomes

@@ -1,5 +1,5 @@
 -- The ends of a process: their numbers, and how it gets and loses them.
-use Rattle.std.specs.Prelude.{ℕ, zero, suc, ◌+◌, ◌-◌, ◌==◌, nat_lt, cond, Bool, false, if◌then◌else◌, List, [], ◌∷◌, ◌++◌, length, map, take, sum_by, flat_map, Option, None, Some, slice_get, slice_set}
+use Rattle.std.specs.Prelude.{ℕ, zero, suc, ◌+◌, ◌-◌, nat_lt, cond, Bool, false, if◌then◌else◌, List, [], ◌∷◌, ◌++◌, length, map, take, sum_by, flat_map, Option, None, Some, slice_get, slice_set}
 use Rattle.charlotte_calls.specs.declared.names.EndId.{EndId}
 use Rattle.charlotte_calls.specs.EndEq.{end_eq}
 use Rattle.lynx_packets.specs.declared.value.RtValue.{RtValue}

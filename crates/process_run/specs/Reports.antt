@@ -16,7 +16,6 @@ use Rattle.lynx_packets.specs.Packets.{packet_of}
 use Rattle.typing_rules.specs.declared.exception.Exception.TheVariants as exceptions
 use Rattle.code_shapes.specs.Shapes.{PartTypes, opened_by}
 use Rattle.compiler_runnable.specs.Runnable.{start_locals}
-use Rattle.lynx_meaning.specs.Values.{Value, Link}
 use Rattle.machine_turns.specs.Threads.{Standing}
 use Rattle.machine_turns.specs.Turns.{spawned}
 use Rattle.end_protocol.specs.declared.hearing.Heard.{Heard}
@@ -62,7 +61,7 @@ spawns n part on w s = s
 abbrev pub takes : Taker → ℕ → Wanted → State → State
 takes (takers.Thread thread) on w s =
     with_opened thread (opening on w ∷ opened_in thread s) (goes_on_with thread w.values w.ends s)
-takes (takers.Entry entry) on w s = spawns (free_from 0 s.turns.threads) (slice_get s.module.parts (suc entry)) on w s
+takes (takers.Entry entry) on w s = spawns (free_from 0 s.turns.threads) (slice_get s.code.parts (suc entry)) on w s
 
 -- a connect goes on with its reply: with the values, or with FAILED
 abbrev pub returns_to : ℕ → ℕ → Response → State → State

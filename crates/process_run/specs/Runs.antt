@@ -8,12 +8,12 @@ use Rattle.charlotte_calls.specs.declared.names.EndId.{EndId}
 use Rattle.charlotte_calls.specs.declared.names.Way.TheVariants.{Inward}
 use Rattle.charlotte_calls.specs.declared.program.Next.{Next}
 use Rattle.charlotte_calls.specs.declared.program.Next.TheVariants as next
-use Rattle.charlotte_calls.specs.Program.{steps, state_after}
+use Rattle.charlotte_calls.specs.Program.{steps}
 use Rattle.lynx_packets.specs.Spelling.{spelling}
 use Rattle.lynx_code.specs.declared.code.Code.{Code}
 use Rattle.code_shapes.specs.Shapes.{program}
 use Rattle.lynx_meaning.specs.Courses.{New, Write}
-use Rattle.machine_turns.specs.Turns.{Turns, Beat, Stops, Spent, Act, AllBlocked, Finished, run}
+use Rattle.machine_turns.specs.Turns.{Beat, Stops, Spent, Act, AllBlocked, Finished, run}
 use Rattle.end_protocol.specs.declared.going.Due.{Due}
 use Rattle.end_protocol.specs.declared.going.Due.TheVariants as due
 use Rattle.end_protocol.specs.declared.kept.Kept.{Kept}
@@ -53,9 +53,12 @@ abbrev pub settled_in : Bool → Holding → Holding
 settled_in free (Keeps k) = Keeps (settled free k)
 settled_in free (Gone own) = Gone own
 
+abbrev pub settled_at : Bool → Place → Place
+settled_at free p = record p { holding = settled_in free p.holding }
+
 -- each allow that is due is queued
 unfoldable pub settles : State → State
-settles s = record s { places = map (λ p. record p { holding = settled_in (room s) p.holding }) s.places }
+settles s = record s { places = map (settled_at (room s)) s.places }
 
 -- a call, and what it is asked for
 pub record Asking : Type 0 where
@@ -144,7 +147,7 @@ stopped (Stops Spent left t) s next = pauses (record s { turns = t })
 stopped _ s next = pauses s
 
 abbrev pub machine_run : ℕ → State → Beat
-machine_run fuel s = run (program s.module.types s.module.instructions) fuel s.turns
+machine_run fuel s = run (program s.code.types s.code.instructions) fuel s.turns
 
 -- with at most so many actions, and so many instructions
 abbrev pub goes_on : ℕ → ℕ → State → Did

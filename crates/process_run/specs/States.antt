@@ -1,5 +1,5 @@
 -- A process between two steps: its threads, what it keeps for its ends, and what it asked.
-use Rattle.std.specs.Prelude.{ℕ, ◌+◌, false, Bool, List, [], ◌∷◌, length, map, replicate}
+use Rattle.std.specs.Prelude.{ℕ, ◌+◌, false, Bool, List, [], ◌∷◌, map, replicate}
 use Rattle.charlotte_calls.specs.declared.names.EndId.{EndId}
 use Rattle.lynx_code.specs.declared.code.Code.{Code}
 use Rattle.lynx_code.specs.declared.instruction.Instruction.{Instruction}
@@ -66,7 +66,7 @@ pub record Module : Type 0 where
 
 pub record State : Type 0 where
   pub version : ℕ
-  pub module : Module
+  pub code : Module
   pub turns : Turns
   -- the ends that it got, in the order of their numbers, which begin at 1
   pub places : List Place
@@ -96,11 +96,11 @@ links_from n (x ∷ xs) = record { 0 = n } ∷ links_from (n + 1) xs
 
 -- the params of the module hold these ends
 abbrev pub start_of : ℕ → Module → List EndId → State
-start_of version module xs =
+start_of version m xs =
     record {
       version = version;
-      module = module;
-      turns = at_start (start_globals module.types.globals (links_from 1 xs));
+      code = m;
+      turns = at_start (start_globals m.types.globals (links_from 1 xs));
       places = map (λ x. record { end = x; holding = Keeps fresh }) xs;
       opened = replicate most_threads [];
       doomed = [];
