@@ -1,3 +1,4 @@
 pub mod Modules
 pub mod Exchanges
 pub mod Rules
+pub mod Agenda
