@@ -34,8 +34,8 @@ first_is_due version free n (suc i) (q ∷ ps) p a at idle due =
     let later : (n + 1) + i ≡ n + suc i = omega arith in
     let due_later : due_on version free ((n + 1) + i) p.end p.holding ≡ Some a = subst (λ (k : ℕ). due_on version free k p.end p.holding ≡ Some a) (sym later) due in
     let idle_later : (j : ℕ) (r : Place) → j < i → slice_get ps j ≡ Some r → IsIdle version free ((n + 1) + j) r =
-        λ j r below there. let moved : n + suc j ≡ (n + 1) + j = omega arith in
-        subst (λ (k : ℕ). IsIdle version free k r) moved (idle (suc j) r (omega (arith, below)) there) in
+    λ j r below there. let moved : n + suc j ≡ (n + 1) + j = omega arith in
+    subst (λ (k : ℕ). IsIdle version free k r) moved (idle (suc j) r (omega (arith, below)) there) in
     idle_first (due_on version free n q.end q.holding) (due_among version free (n + 1) ps) none ∙ first_is_due version free (n + 1) i ps p a at idle_later due_later
 
 -- no call is due on any end
@@ -46,7 +46,7 @@ none_is_due version free n (q ∷ ps) idle =
     let number : n + 0 ≡ n = omega arith in
     let none : IsIdle version free n q = subst (λ (k : ℕ). IsIdle version free k q) number (idle zero q refl) in
     let idle_later : (j : ℕ) (r : Place) → slice_get ps j ≡ Some r → IsIdle version free ((n + 1) + j) r =
-        λ j r there. let moved : n + suc j ≡ (n + 1) + j = omega arith in subst (λ (k : ℕ). IsIdle version free k r) moved (idle (suc j) r there) in
+    λ j r there. let moved : n + suc j ≡ (n + 1) + j = omega arith in subst (λ (k : ℕ). IsIdle version free k r) moved (idle (suc j) r there) in
     idle_first (due_on version free n q.end q.holding) (due_among version free (n + 1) ps) none ∙ none_is_due version free (n + 1) ps idle_later
 
 -- where no allow is due, to queue those that are changes nothing

@@ -2,3 +2,4 @@ pub mod Modules
 pub mod Exchanges
 pub mod Rules
 pub mod Agenda
+pub mod Versions

@@ -19,7 +19,7 @@ use Rattle.end_protocol.specs.declared.going.Due.TheVariants as due
 use Rattle.end_protocol.specs.declared.kept.Kept.{Kept}
 use Rattle.end_protocol.specs.declared.messages.Message.{Message}
 use Rattle.end_protocol.specs.Going.{settled, due_call, enclosed}
-use Rattle.end_protocol.specs.Lists.{head, is_nil}
+use Rattle.end_protocol.specs.Lists.{head, tail, is_nil}
 use Rattle.end_protocol.specs.Wanting.{is_silent}
 use Rattle.process_run.specs.States.{Holding, Keeps, Gone, Place, Asked, Nothing, Make, Print, Destroy, Send, Receive, Cancel, Wait, Exit, State, Done, DeedOn, start}
 use Rattle.process_run.specs.Ends.{room}
@@ -94,13 +94,9 @@ abbrev pub first_due : List EndId → State → Option Asking
 first_due [] s = due_among s.version (room s) 1 s.places
 first_due (x ∷ xs) s = Some (record { asked = Destroy; call = call.Destroy x })
 
-abbrev pub behind : List EndId → List EndId
-behind [] = []
-behind (x ∷ xs) = xs
-
 abbrev pub asks_first : Option Asking → State → (State → Did) → Did
 asks_first None s next = next s
-asks_first (Some a) s next = asks a.asked a.call (record s { doomed = behind s.doomed })
+asks_first (Some a) s next = asks a.asked a.call (record s { doomed = tail s.doomed })
 
 -- the first call that is due is asked; where none is, the process goes on
 abbrev pub calls : State → (State → Did) → Did
