@@ -3,3 +3,4 @@ pub mod Exchanges
 pub mod Rules
 pub mod Agenda
 pub mod Versions
+pub mod Numbers
