@@ -1,7 +1,10 @@
 -- Which call is due is known from the ends that may have one: where all ends before one have none, that of this one is the first; where all have
 -- none, none is due; and where no allow is due, none is queued. So code need not look at all ends.
-use Rattle.std.proofs.Common.{arith, ◌≡◌, ℕ, zero, suc, ◌+◌, ◌<◌, Bool, List, [], ◌∷◌, map, Option, Some, None, slice_get, refl, sym, ap, subst, ◌∙◌}
-use Rattle.process_run.specs.States.{Holding, Place}
+use Rattle.std.proofs.Common.{arith, ◌≡◌, ℕ, zero, suc, ◌+◌, ◌<◌, Bool, List, [], ◌∷◌, map, Option, Some, None, slice_get, slice_set, true, false, if◌then◌else◌, refl, sym, ap, subst, ◌∙◌}
+use Rattle.end_protocol.specs.declared.kept.Forbade.{Forbade}
+use Rattle.end_protocol.specs.declared.kept.Kept.{Kept}
+use Rattle.end_protocol.specs.Going.{allows, is_allow_due, settled, settled_with}
+use Rattle.process_run.specs.States.{Holding, Keeps, Gone, Place}
 use Rattle.process_run.specs.Runs.{Asking, or_asking, due_on, due_among, settled_in, settled_at}
 
 -- no call is due on the end of this number
@@ -56,3 +59,33 @@ all_are_settled free (q ∷ ps) calm =
     let here : settled_at free q ≡ q = ap (λ (h : Holding). record q { holding = h }) (calm zero q refl) in
     let others : map (settled_at free) ps ≡ ps = all_are_settled free ps (λ j r there. calm (suc j) r there) in
     ap (λ (x : Place). x ∷ map (settled_at free) ps) here ∙ ap (λ (xs : List Place). q ∷ xs) others
+
+-- ---- one end after the other
+
+chosen : (b : Bool) (c d : Kept) → b ≡ false → (if b then c else d) ≡ d
+chosen b c d e = ap (λ (x : Bool). if x then c else d) e
+
+settled_so : (b free : Bool) (f : Forbade) (k : Kept) → is_allow_due free f k ≡ b → k.forbade ≡ Some f
+    → settled free (if b then allows f.number k else k) ≡ (if b then allows f.number k else k)
+unfolding allows
+settled_so true free f k due e = refl
+settled_so false free f k due e =
+    ap (λ (o : Option Forbade). settled_with o free k) e ∙ chosen (is_allow_due free f k) (allows f.number k) k due
+
+settled_with_twice : (o : Option Forbade) (free : Bool) (k : Kept) → k.forbade ≡ o → settled free (settled_with o free k) ≡ settled_with o free k
+settled_with_twice None free k e = ap (λ (o : Option Forbade). settled_with o free k) e
+settled_with_twice (Some f) free k e = settled_so (is_allow_due free f k) free f k refl e
+
+-- once an allow was queued, none is due
+pub settled_twice : (free : Bool) (h : Holding) → settled_in free (settled_in free h) ≡ settled_in free h
+settled_twice free (Keeps k) = ap (λ (x : Kept). Keeps x) (settled_with_twice k.forbade free k refl)
+settled_twice free (Gone own) = refl
+
+-- So ends may be settled one after the other: to settle all comes to the same after one was settled
+pub one_is_settled : (free : Bool) (i : ℕ) (ps : List Place) (p : Place) → slice_get ps i ≡ Some p
+    → map (settled_at free) (slice_set ps i (settled_at free p)) ≡ map (settled_at free) ps
+one_is_settled free i [] p at = let no : None ≡ Some p = at in absurd cc
+one_is_settled free zero (q ∷ ps) p at =
+    let twice : settled_at free (settled_at free p) ≡ settled_at free p = ap (λ (h : Holding). record p { holding = h }) (settled_twice free p.holding) in
+    ap (λ (x : Place). x ∷ map (settled_at free) ps) (twice ∙ ap (settled_at free) (sym (place_is q p at)))
+one_is_settled free (suc i) (q ∷ ps) p at = ap (λ (xs : List Place). settled_at free q ∷ xs) (one_is_settled free i ps p at)
