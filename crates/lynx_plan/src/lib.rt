@@ -4,7 +4,9 @@
 //! What `read_script` answers, the line and rule of a refusal too, is a stated function of the bytes. A script that it gives is spelled by
 //! these bytes, its setting is valid, the numbers of its lines rise, and seven times their number is at most one more than the bytes. What
 //! is spelled as a script is read so, and so each text spells at most one script.
-//! By clauses `exact`, `found`, `valid`, `rising`, `few` and `only` of `read_script`; the law `one_script`; `script_of` in `specs/`.
+//! The script that `make_script` gives is a stated function of the seed, and can be performed as one that was read.
+//! By clauses `exact`, `found`, `valid`, `rising`, `few` and `only` of `read_script`; the law `one_script`; `script_of` in `specs/`; the
+//! clauses of `make_script`, and `script_of_seed` there.
 #![tactic(auto)]
 
 mod compact;
