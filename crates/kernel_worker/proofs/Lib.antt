@@ -4,3 +4,6 @@ pub mod Going
 pub mod Progress
 pub mod Turning
 pub mod Found
+pub mod Leaving
+pub mod Stopping
+pub mod Crossing

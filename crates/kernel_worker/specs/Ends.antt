@@ -14,6 +14,18 @@ use Rattle.node_runs.specs.Net.{AreNodes, AreUnspoiled, HaveMet, journals_of, le
 use Rattle.theorem.specs.Record.{IsLawfulRecord}
 use Rattle.kernel_worker.specs.declared.standing.End.{End}
 use Rattle.kernel_worker.specs.declared.standing.End.TheVariants as end
+use Rattle.kernel_worker.specs.declared.beside.WithEnd.{WithEnd}
+use Rattle.kernel_worker.specs.declared.beside.WithEnd.TheVariants as with_end
+
+-- the end of a run that was not stopped
+abbrev pub with_end_of : End → WithEnd
+with_end_of end.Quiet = with_end.Quiet
+with_end_of (end.Spent k) = with_end.Spent k
+
+-- this is so where it was not stopped
+abbrev pub Unstopped : WithEnd → Type 0 → Type 0
+Unstopped with_end.Stopped X = Unit {0}
+Unstopped e X = X
 
 -- ---- quiet
 
@@ -50,6 +62,12 @@ module _ {P W : Type 0} where
   abbrev pub Ends : List (Node P W) → End → Type 0
   Ends ns end.Quiet = IsQuiet ns
   Ends ns (end.Spent k) = IsSpent ns k
+
+  -- with something beside it, which is stopped as this says
+  abbrev pub EndsWith : Type 0 → List (Node P W) → WithEnd → Type 0
+  EndsWith Stopped ns with_end.Quiet = IsQuiet ns
+  EndsWith Stopped ns (with_end.Spent k) = IsSpent ns k
+  EndsWith Stopped ns with_end.Stopped = Stopped
 
   -- neither is so
   pub record GoesFurther (ns : List (Node P W)) : Type 0 where
