@@ -146,37 +146,37 @@ module _ {P S W : Type 0} (m : Meaning P S) (HasSeen : W → List Entry → Type
     module _ (n : Node P W) (new : IsNew s number own port part n) where
       node-starts : (starts : Starts m HasSeen s number (programs_on s programs number) n) × (0 < starts.base.capacity)
       node-starts = (
-          record {
-            base = record {
-              kernel = new.state;
-              processes = new.processes;
-              kernels = new.kernels;
-              entries = new.entries;
-              capacity = capacity;
-              port = subst (IsFresh capacity) (sym new.port_is) (All-head (IsFresh capacity) port ports are.fresh);
-              number = ap (λ (p : PortView). p.kernel) new.port_is ∙ ap (λ (p : Place). p.kernel) (sym (place-at (place_of port))) ∙ are.may.net_is.numbers number (place_of port) there;
-              net = ap (λ (p : PortView). kernels_of (place_of p)) new.port_is
-                  ∙ ap kernels_of (sym (place-at (place_of port)))
-                  ∙ All-get_or (λ p. kernels_of p ≡ length net) net number (place_of port) there are.may.net_is.kernels
-                  ∙ are.may.kernels;
-              unsent = new.unsent;
-              waiting = new.waiting;
-              begun = new.begun;
-              marked = new.marked;
-              marks = new.marks;
-              used = new.used;
-            };
-            programs = new.programs_are ∙ own-is;
-            doing = new.doing;
-            few = subst (λ (xs : List (Pid × P)). length xs ≤ 64) own-is own-few;
-            homes = all-from (λ (x : Pid × P). (x.0.0 < length s.homes) × (home s x.0 ≡ number) × (m.version x.1 ≤ s.version)) (programs_on s programs number)
+        record {
+          base = record {
+            kernel = new.state;
+            processes = new.processes;
+            kernels = new.kernels;
+            entries = new.entries;
+            capacity = capacity;
+            port = subst (IsFresh capacity) (sym new.port_is) (All-head (IsFresh capacity) port ports are.fresh);
+            number = ap (λ (p : PortView). p.kernel) new.port_is ∙ ap (λ (p : Place). p.kernel) (sym (place-at (place_of port))) ∙ are.may.net_is.numbers number (place_of port) there;
+            net = ap (λ (p : PortView). kernels_of (place_of p)) new.port_is
+                ∙ ap kernels_of (sym (place-at (place_of port)))
+                ∙ All-get_or (λ p. kernels_of p ≡ length net) net number (place_of port) there are.may.net_is.kernels
+                ∙ are.may.kernels;
+            unsent = new.unsent;
+            waiting = new.waiting;
+            begun = new.begun;
+            marked = new.marked;
+            marks = new.marks;
+            used = new.used;
+          };
+          programs = new.programs_are ∙ own-is;
+          doing = new.doing;
+          few = subst (λ (xs : List (Pid × P)). length xs ≤ 64) own-is own-few;
+          homes = all-from (λ (x : Pid × P). (x.0.0 < length s.homes) × (home s x.0 ≡ number) × (m.version x.1 ≤ s.version)) (programs_on s programs number)
               (λ i x at. let is = at-home are.may number i x at in (is.0, is.1, is.2));
-            apart = on-apart number 0 s.homes programs;
-            last = all-from (λ (x : Pid × P). m.last x.1 ≡ None) (programs_on s programs number) (λ i x at. (at-home are.may number i x at).3);
-            seen = subst (λ (w : W). HasSeen w []) (sym new.watch) (All-head IsPart part others are.orders).1;
-            most = subst (λ (o : Orders). o.limit ≤ 100000) (sym new.orders) (All-head IsPart part others are.orders).0;
-          },
-          are.may.room,
+          apart = on-apart number 0 s.homes programs;
+          last = all-from (λ (x : Pid × P). m.last x.1 ≡ None) (programs_on s programs number) (λ i x at. (at-home are.may number i x at).3);
+          seen = subst (λ (w : W). HasSeen w []) (sym new.watch) (All-head IsPart part others are.orders).1;
+          most = subst (λ (o : Orders). o.limit ≤ 100000) (sym new.orders) (All-head IsPart part others are.orders).0;
+        },
+        are.may.room,
       )
 
       started-more : AreStarted (number + 1) (ns ++ n ∷ []) owns ports others
@@ -228,9 +228,8 @@ module _ {P S W : Type 0} (m : Meaning P S) (HasSeen : W → List Entry → Type
       → AreNodes m HasSeen s (programs_on s programs) (λ k. []) ns × (map part_of ns ≡ parts)
   all-started number ns own ports others are none =
       let is = counts number ns own ports others are in
-      let no_ports : ports ≡ [] = nil_from_length ports (omega (arith, is.1, is.2, ap length none)) in
-      (
+      let no_ports : ports ≡ [] = nil_from_length ports (omega (arith, is.1, is.2, ap length none)) in (
         nodes-started m HasSeen s (programs_on s programs) ns are.may.valid (omega (arith, are.count, is.2, ap length none))
-        (subst IsNet (sym (sym (append-nil (places_of ns)) ∙ ap (λ (ps : List PortView). places_of ns ++ map place_of ps) (sym no_ports) ∙ are.places)) are.may.net_is) are.each,
+            (subst IsNet (sym (sym (append-nil (places_of ns)) ∙ ap (λ (ps : List PortView). places_of ns ++ map place_of ps) (sym no_ports) ∙ are.places)) are.may.net_is) are.each,
         sym (append-nil (map part_of ns)) ∙ ap (λ xs. map part_of ns ++ xs) (sym none) ∙ are.told,
       )

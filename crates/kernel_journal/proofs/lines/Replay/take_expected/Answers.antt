@@ -4,7 +4,7 @@ use Rattle.kernel_journal.proofs.Taken.{differs, expected, noted}
 use Rattle.kernel_journal.proofs.lines.Replay.take_expected.Goals as goal
 
 pub returns-then-not-is_among_entries-clause-taken : goal.returns-then-not-is_among_entries-clause-taken
-returns-then-not-is_among_entries-clause-taken c taken at = noted c.skip_note.result taken c.args.self.now c.args.reader.now c.skip_note.new.reader c.skip_note.ensures at
+returns-then-not-is_among_entries-clause-taken c taken at = noted c.skip_note.result taken c.args.self.now c.args.reader.now c.skip_note.new.self c.skip_note.ensures at
 
 pub returns-in-Ok-clause-taken : goal.returns-in-Ok-clause-taken
 returns-in-Ok-clause-taken c taken at =
