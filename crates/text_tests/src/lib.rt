@@ -10,6 +10,8 @@ mod lines;
 #[cfg(test)]
 mod noted;
 #[cfg(test)]
+mod plans;
+#[cfg(test)]
 mod reading;
 #[cfg(test)]
 mod replays;

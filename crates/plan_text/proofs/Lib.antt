@@ -1,0 +1,5 @@
+pub mod Steps
+pub mod Shapes
+pub mod Posts
+pub mod Found
+pub mod Again
