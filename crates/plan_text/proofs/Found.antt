@@ -181,11 +181,11 @@ reads_post line g k p text all s few t fits r =
     let h : Given = record g.header { homes = g.header.homes ++ k ∷ [] } in
     let o : IsBegun (texts_of r.first) (setting_of g.header) = subst (λ (x : Stage). Begins g.header x (texts_of r.first)) s r.begins in
     let e : Empty g.header r.posted r.posts r.wired stage.Processes = subst (Empty g.header r.posted r.posts r.wired) s r.empty in
-    let n : length g.header.homes ≡ length r.posts = ap length r.homes ∙ length-map r.posts (λ (x : Post). x.0) in
+    let n : length g.header.homes ≡ 0 + length r.posts = omega (arith, ap length r.homes, length-map r.posts (λ (x : Post). x.0)) in
     let posts : List Post = r.posts ++ (k, p) ∷ [] in
     let hosts : g.hosts ++ host_of (length g.header.homes) p ≡ hosts_of 0 posts =
     ap (λ (x : List Hosting). x ++ host_of (length g.header.homes) p) r.hosts ∙ ap (λ (m : ℕ). hosts_of 0 r.posts ++ host_of m p) n ∙ sym (hosts_push 0 r.posts (k, p)) in
-    let here : FitsPlace (hosts_of 0 r.posts) (length r.posts) p = subst (λ (m : ℕ). FitsPlace (hosts_of 0 r.posts) m p) n (subst (λ (x : List Hosting). FitsPlace x (length g.header.homes) p) r.hosts fits) in
+    let here : FitsPlace (hosts_of 0 r.posts) (0 + length r.posts) p = subst (λ (m : ℕ). FitsPlace (hosts_of 0 r.posts) m p) n (subst (λ (x : List Hosting). FitsPlace x (length g.header.homes) p) r.hosts fits) in
     let begun : Begins h stage.Processes (texts_of r.first) = o in
     let emptied : Empty h (r.posted ++ (line, text) ∷ []) posts r.wired stage.Processes = e in
     record {
