@@ -1,3 +1,4 @@
 pub mod Moving
 pub mod Packets
 pub mod Ranges
+pub mod Sent

@@ -1,5 +1,5 @@
 -- What the values of ends, and packets, are: a number is below the bound of its type, and a list is no longer than its type allows.
-use Rattle.std.specs.Prelude.{ℕ, ◌≤◌, List, length}
+use Rattle.std.specs.Prelude.{◌≤◌, List, length}
 use Rattle.std.specs.List.{AllByRecursion}
 use Rattle.charlotte_calls.specs.Ranges.{AreBytesInRange, IsEnd, IsU32, IsU64, IsU8}
 use Rattle.charlotte_packets.specs.declared.picture.MovingPicture.{MovingPicture}

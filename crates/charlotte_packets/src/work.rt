@@ -1,12 +1,12 @@
-use crate::Packet;
+use crate::PacketList;
 use charlotte_calls::{Answer, Pid, Report, ServiceStep};
 
 /// What one event of a kernel gives to the outside.
-#[derive(Debug, Drop)]
+#[derive(Drop)]
 pub struct Effect {
     pub stamp: u64,
     /// The packets sent, each with the kernel that it goes to, in order.
-    pub packets: Vec<(u8, Packet)>,
+    pub packets: PacketList,
     /// The process for which an answer came to stand in the event, if there is one.
     pub answered: Vec<Pid>,
     /// What the event means to the link service, in order.
@@ -14,11 +14,11 @@ pub struct Effect {
 }
 
 /// What the parts of one event add, each list in order.
-#[derive(Debug, Drop)]
+#[derive(Drop)]
 pub struct Work {
     pub stamp: u64,
     /// The packets to be sent, each with the kernel that it goes to.
-    pub packets: Vec<(u8, Packet)>,
+    pub packets: PacketList,
     /// The reports, each for the process whose list it joins.
     pub reports: Vec<(Pid, Report)>,
     /// The answers to Cancels that waited.

@@ -16,7 +16,7 @@ use crate::stamp::{greater, stamp_after, stamp_with};
 use crate::state::{Request, State};
 use crate::taking::{NotTaken, take_event};
 use charlotte_calls::{Answer, Call, NoMemory, Pid, ServiceStep, Setting};
-use charlotte_packets::{Effect, Packet};
+use charlotte_packets::{Effect, Packet, PacketList};
 use end_table::Table;
 use kernel_process::{ControlBlock, Event, Processes};
 use kernel_start::wire_links;
@@ -211,7 +211,7 @@ impl Kernel {
     }
 
     /// Gives back the list of packets of an effect. The next event takes its room, and asks for no other where that is enough.
-    pub fn reuse(&mut self, packets: Vec<(u8, Packet)>)
+    pub fn reuse(&mut self, packets: PacketList)
         ensures { self.new ≡ self.old }
     {
         self.state.event.work.packets = packets;

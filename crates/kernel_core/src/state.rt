@@ -1,5 +1,5 @@
 use charlotte_calls::{Call, Pid};
-use charlotte_packets::Effect;
+use charlotte_packets::{Effect, PacketList};
 use end_table::Table;
 use kernel_process::{Event, Processes};
 use std::alloc::Global;
@@ -26,7 +26,7 @@ pub struct Request {
 pub(crate) fn no_effect(alloc: Global) -> Effect {
     Effect {
         stamp: 0,
-        packets: Vec::new(alloc),
+        packets: PacketList::new(alloc),
         answered: Vec::new(alloc),
         steps: Vec::new(alloc),
     }

@@ -33,6 +33,13 @@ pub to_kernel-append : (to : ℕ) (xs ys : List (ℕ × Picture)) → to_kernel 
 to_kernel-append to xs ys =
     ap (map (λ s. s.1)) (filter-append (λ s. nat_eq to s.0) xs ys) ∙ map-append (λ s. s.1) (filter (λ s. nat_eq to s.0) xs) (filter (λ s. nat_eq to s.0) ys)
 
+-- packets of an event, and others behind them, were sent
+pub sent-both : (before mid after : List Picture) (to : ℕ) (xs ys all : List (ℕ × Packet)) → all ≡ xs ++ ys → mid ≡ before ++ to_kernel to (map sent_picture xs) → after ≡ mid ++ to_kernel to (map sent_picture ys)
+    → after ≡ before ++ to_kernel to (map sent_picture all)
+sent-both before mid after to xs ys all parts first second =
+    second ∙ ap (λ qs. qs ++ to_kernel to (map sent_picture ys)) first ∙ append_assoc before (to_kernel to (map sent_picture xs)) (to_kernel to (map sent_picture ys))
+    ∙ ap (λ qs. before ++ qs) (sym (to_kernel-append to (map sent_picture xs) (map sent_picture ys)) ∙ ap (to_kernel to) (sym (map-append sent_picture xs ys) ∙ ap (map sent_picture) (sym parts)))
+
 -- what goes to a kernel, of one packet
 one-same : (to t : ℕ) (q : Picture) → nat_eq to t ≡ true → to_kernel to ((t, q) ∷ []) ≡ q ∷ []
 one-same to t q e = rw e refl

@@ -1,6 +1,6 @@
 -- Packets that go to kernels that are there have a list to go to.
-use Rattle.std.proofs.Common.{◌≡◌, ℕ, ◌<◌, List, [], ◌∷◌, length, All, subst, arith}
-use Rattle.std.proofs.lemmas.List.Elements.{All-head, All-tail}
+use Rattle.std.proofs.Common.{◌≡◌, ℕ, ◌<◌, List, [], ◌∷◌, ◌++◌, length, All, subst, arith}
+use Rattle.std.proofs.lemmas.List.Elements.{All-cons, All-head, All-nil, All-tail}
 use Rattle.charlotte_packets.specs.Packets.{what_picture}
 use Rattle.charlotte_packets.specs.declared.packet.Packet.{Packet}
 use Rattle.kernel_named.specs.Named.{GoWithin, IsSentWithin}
@@ -23,3 +23,12 @@ rest-there m n x xs rest same within is = subst (λ k. GoWithin k rest) same (Al
 -- as many lists
 pub within-same : (m n : ℕ) (xs : List (ℕ × Packet)) → m ≡ n → GoWithin m xs → GoWithin n xs
 within-same m n xs same within = subst (λ k. GoWithin k xs) same within
+
+-- those in front, and those behind them
+pub front-there : (n : ℕ) (xs ys : List (ℕ × Packet)) → GoWithin n (xs ++ ys) → GoWithin n xs
+front-there n [] ys within = All-nil (IsGoing n)
+front-there n (x ∷ xs) ys within = All-cons (IsGoing n) x xs (All-head (IsGoing n) x (xs ++ ys) within) (front-there n xs ys (All-tail (IsGoing n) x (xs ++ ys) within))
+
+pub back-there : (n : ℕ) (xs ys : List (ℕ × Packet)) → GoWithin n (xs ++ ys) → GoWithin n ys
+back-there n [] ys within = within
+back-there n (x ∷ xs) ys within = back-there n xs ys (All-tail (IsGoing n) x (xs ++ ys) within)

@@ -17,7 +17,7 @@ ghost use Rattle.kernel_nodes.specs.Nodes.{sent_to, IsNodeOf, IsAfter, IsNotedOf
 
 use crate::nodes::Noted;
 use charlotte_calls::{NoMemory, ServiceStep, Setting};
-use charlotte_packets::{Effect, Packet};
+use charlotte_packets::{BriefPackets, Effect, Packet, PacketList};
 use kernel_core::{Kernel, Request};
 use packet_queue::{MOST_IN_FRONT, OpenQueue, PacketQueue};
 use std::alloc::Global;
@@ -132,14 +132,30 @@ impl Node {
         self.kernel.reuse_answered(answered);
         let sent = self.send_all(packets)?;
         if sent.capacity() <= MOST_IN_FRONT {
-            self.kernel.reuse(sent);
+            self.kernel.reuse(PacketList::within(sent));
         }
         Ok(Noted { stamp, steps })
     }
 
-    /// Sends packets, and gives their emptied list back. Most events have none.
+    /// Sends packets, and gives the emptied list of the first ones back. Most events have none.
     #[inline(always)]
-    fn send_all(&mut self, packets: Vec<(u8, Packet)>) -> Result<Vec<(u8, Packet)>, NoMemory>
+    fn send_all(&mut self, packets: PacketList) -> Result<Vec<(u8, Packet)>, NoMemory>
+        requires { GoWithin (length self.old.sent.items) packets.items }
+        ensures kernel { self.new.kernel ≡ self.old.kernel }
+        ensures sent { OnOk result ((to : ℕ) → sent_to self.new to ≡ sent_to self.old to ++ to_kernel to (map sent_picture packets.items)) }
+        ensures lists { length self.new.sent.items ≡ length self.old.sent.items }
+    {
+        let (first, behind) = packets.open();
+        let sent = self.send_first(first)?;
+        if !behind.is_empty() {
+            self.send_behind(behind)?;
+        }
+        Ok(sent)
+    }
+
+    /// Sends the first packets of an event, and gives their emptied list back.
+    #[inline(always)]
+    fn send_first(&mut self, packets: Vec<(u8, Packet)>) -> Result<Vec<(u8, Packet)>, NoMemory>
         requires { GoWithin (length self.old.sent.items) packets.items }
         ensures kernel { self.new.kernel ≡ self.old.kernel }
         ensures sent { OnOk result ((to : ℕ) → sent_to self.new to ≡ sent_to self.old to ++ to_kernel to (map sent_picture packets.items)) }
@@ -149,6 +165,20 @@ impl Node {
             return Ok(packets);
         }
         self.send_some(packets)
+    }
+
+    /// Sends the packets behind them.
+    #[inline(never)]
+    fn send_behind(&mut self, mut packets: BriefPackets) -> Result<(), NoMemory>
+        requires { GoWithin (length self.old.sent.items) packets.items }
+        ensures kernel { self.new.kernel ≡ self.old.kernel }
+        ensures sent { OnOk result ((to : ℕ) → sent_to self.new to ≡ sent_to self.old to ++ to_kernel to (map sent_picture packets.items)) }
+        ensures lists { length self.new.sent.items ≡ length self.old.sent.items }
+    {
+        while let Some(sent) = packets.pop_front() {
+            self.sent[usize::from(sent.0)].push(sent)?;
+        }
+        Ok(())
     }
 
     /// Sends packets, and gives an emptied list back. Those that all go where none waits are not moved: their list changes places with the empty one.

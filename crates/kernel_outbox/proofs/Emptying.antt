@@ -1,8 +1,6 @@
 -- An outbox without letters.
-use Rattle.std.proofs.Common.{◌≡◌, ◌≢◌, ◌⊎◌, inl, inr, Bool, true, false, nat_eq, ℕ, zero, suc, List, [], ◌∷◌, ◌++◌, All, length, ap, ◌∙◌, sym, refl, arith}
-use Rattle.std.proofs.lemmas.Bool.Decides.{eqb_tells}
+use Rattle.std.proofs.Common.{◌≡◌, ℕ, zero, suc, List, [], ◌∷◌, ◌++◌, All, ap, ◌∙◌, sym, refl}
 use Rattle.std.proofs.lemmas.List.Elements.{All-cons, All-head, All-nil, All-tail}
-use Rattle.std.specs.VecDeque.{deque_len}
 use Rattle.charlotte_packets.specs.declared.packet.Packet.{Packet}
 use Rattle.kernel_net.specs.declared.letter.Letter.{Letter}
 use Rattle.kernel_net.specs.declared.letter.Letter.TheVariants as letter
@@ -44,22 +42,3 @@ none-waits o none = waits-empty o.waiting.items (λ to. front-empty (waiting_to 
 
 pub nothing-unsent : (o : Outbox) → ((to : ℕ) → outbox_to o to ≡ []) → o.unsent.items ≡ []
 nothing-unsent o none = none-unsent o.unsent.items (λ to. back-empty (waiting_to o to) (letters_for to o.unsent.items) (none to))
-
--- what a count of 0 says
-no-items : {X : Type 0} (xs : List X) → length xs ≡ 0 → xs ≡ []
-no-items [] none = refl
-no-items (x ∷ xs) none = absurd (omega (arith, none))
-
-pub unsent-none : (o : Outbox) → true ≡ nat_eq (deque_len o.unsent) 0 → o.unsent.items ≡ []
-unsent-none o is = by (eqb_tells (deque_len o.unsent) 0)
-  where
-    by : ((nat_eq (deque_len o.unsent) 0 ≡ true) × (deque_len o.unsent ≡ 0)) ⊎ ((nat_eq (deque_len o.unsent) 0 ≡ false) × (deque_len o.unsent ≢ 0)) → o.unsent.items ≡ []
-    by (inl e) = no-items o.unsent.items (omega (arith, e.1, o.unsent.ok.0))
-    by (inr e) = let no : true ≡ false = is ∙ e.0 in cc
-
-pub unsent-some : (o : Outbox) → false ≡ nat_eq (deque_len o.unsent) 0 → o.unsent.items ≢ []
-unsent-some o is none = by (eqb_tells (deque_len o.unsent) 0)
-  where
-    by : ((nat_eq (deque_len o.unsent) 0 ≡ true) × (deque_len o.unsent ≡ 0)) ⊎ ((nat_eq (deque_len o.unsent) 0 ≡ false) × (deque_len o.unsent ≢ 0)) → ⊥
-    by (inl e) = let no : false ≡ true = is ∙ e.0 in cc
-    by (inr e) = e.1 (o.unsent.ok.0 ∙ ap length none)

@@ -1,11 +1,11 @@
-ghost use Rattle.std.specs.Prelude.{◌≡◌, ◌≢◌, ◌<◌, ◌≤◌, ◌↔◌, ◌||◌, ◌++◌, [], ℕ, All, IfOk, IsTrue, OnOk, false, true, length, max};
+ghost use Rattle.std.specs.Prelude.{◌≡◌, ◌≢◌, ◌^◌, ◌<◌, ◌≤◌, ◌↔◌, ◌||◌, ◌++◌, [], ℕ, All, IfOk, IsTrue, OnOk, false, true, length, max};
 ghost use Rattle.kernel_named.specs.Named.{GoWithin};
 ghost use Rattle.kernel_net.specs.Letters.{MayBePut};
 ghost use Rattle.kernel_net.specs.Ports.{kernels_of, place_of, places_to, put_to};
 ghost use Rattle.kernel_outbox.specs.Letters.{Flushes, MayAllBePut, PutsFirst, PutsOne, if_to, letters_for, markers_to, outbox_to, waiting_to};
 
 use charlotte_calls::NoMemory;
-use charlotte_packets::Packet;
+use charlotte_packets::{PacketList, Unsent};
 use kernel_net::{Letter, Port};
 use std::alloc::Global;
 use std::collections::VecDeque;
@@ -16,7 +16,7 @@ use std::mem;
 #[derive(Drop)]
 pub struct Outbox {
     /// The packets of the last event, each with its target, as the kernel gave them.
-    unsent: VecDeque<(u8, Packet)>,
+    unsent: Unsent,
     /// By target, the letters whose ring was full, or before which a letter or a marker stands. There are no lists before the first is needed.
     waiting: Vec<VecDeque<Letter>>,
     /// The kernels to which letters were put since this was last asked, one bit each. No clause speaks of it.
@@ -30,29 +30,29 @@ impl Outbox {
         ensures waiting { result.waiting.items ≡ [] }
     {
         Outbox {
-            unsent: VecDeque::new(alloc),
+            unsent: Unsent::new(alloc),
             waiting: Vec::new(alloc),
             reached: 0,
         }
     }
 
     /// The packets of an event go out, where none is unsent.
-    pub fn send(&mut self, packets: Vec<(u8, Packet)>)
+    pub fn send(&mut self, packets: PacketList)
         ensures unsent { self.new.unsent.items ≡ packets.items }
         ensures waiting { self.new.waiting ≡ self.old.waiting }
+        ensures few { length packets.items < 2 ^ 63 }
     {
-        self.unsent = VecDeque::from(packets);
+        self.unsent = Unsent::of(packets);
     }
 
     /// The list of the unsent packets, of which there are none, for the next event to fill.
-    pub fn emptied(&mut self) -> Vec<(u8, Packet)>
+    pub fn emptied(&mut self) -> PacketList
         ensures unsent { self.new.unsent.items ≡ [] }
         ensures waiting { self.new.waiting ≡ self.old.waiting }
-        ensures list { result.items ≡ self.old.unsent.items }
+        ensures list { result.items ≡ [] }
     {
-        let alloc = *self.unsent.allocator();
-        let list = mem::replace(&mut self.unsent, VecDeque::new(alloc));
-        Vec::from(list)
+        let alloc = *self.waiting.allocator();
+        mem::replace(&mut self.unsent, Unsent::new(alloc)).emptied()
     }
 
     /// Puts letters, to each kernel in order, while they are accepted. Whether one was put. No packet is unsent afterwards.

@@ -452,7 +452,7 @@ pub fn close(table: &mut Table, processes: &mut Processes, event: &mut Event) ->
 {
     let mut effect = Effect {
         stamp: event.work.stamp,
-        packets: take_list(&mut event.work.packets),
+        packets: event.work.packets.take(),
         answered: take_list(&mut event.answered),
         steps: take_list(&mut event.work.steps),
     };

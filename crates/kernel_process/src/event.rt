@@ -5,7 +5,7 @@ ghost use Rattle.kernel_step.specs.Progress.{progress};
 ghost use Rattle.kernel_step.specs.Room.{and_ends};
 
 use charlotte_calls::{NoMemory, Pid};
-use charlotte_packets::{Room, Work};
+use charlotte_packets::{PacketList, Room, Work};
 use kernel_step::PACKETS_OF_END;
 use std::alloc::Global;
 
@@ -22,7 +22,7 @@ impl Event {
     pub fn unused(alloc: Global) -> Event {
         let work = Work {
             stamp: 0,
-            packets: Vec::new(alloc),
+            packets: PacketList::new(alloc),
             reports: Vec::new(alloc),
             answers: Vec::new(alloc),
             steps: Vec::new(alloc),
@@ -54,7 +54,7 @@ impl Event {
         let most_packets = room.packets as usize + PACKETS_OF_END as usize * dying;
         let most_reports = room.reports as usize;
         let most_answers = room.answers as usize;
-        renew(&mut self.work.packets, most_packets)?;
+        self.work.packets.renew(most_packets)?;
         renew(&mut self.work.reports, most_reports)?;
         renew(&mut self.work.answers, most_answers)?;
         renew(&mut self.work.steps, room.steps as usize + most_reports)?;

@@ -1,5 +1,5 @@
 -- How far an event has come at one kernel: the table as it is now, and what the event added so far.
-use Rattle.std.specs.Prelude.{◌≡◌, ℕ, ◌+◌, ◌≤◌, List, [], ◌∷◌, ◌++◌, map, vec_len, vec_capacity}
+use Rattle.std.specs.Prelude.{◌≡◌, ℕ, ◌+◌, ◌≤◌, List, [], ◌∷◌, ◌++◌, length, map, vec_len, vec_capacity}
 use Rattle.charlotte_packets.specs.Packets.{packet_picture}
 use Rattle.charlotte_calls.specs.declared.calls.Answer.{Answer}
 use Rattle.charlotte_calls.specs.declared.calls.Report.{Report}
@@ -67,18 +67,18 @@ progress t out =
 
 -- the lists have this spare room
 pub record HasRoom (room : Room) (out : Work) : Type 0 where
-  pub packets : vec_len out.packets + room.packets ≤ vec_capacity out.packets
+  pub packets : length out.packets.items + room.packets ≤ out.packets.fits
   pub reports : vec_len out.reports + room.reports ≤ vec_capacity out.reports
   pub answers : vec_len out.answers + room.answers ≤ vec_capacity out.answers
   pub steps : vec_len out.steps + room.steps ≤ vec_capacity out.steps
 
 -- no list took memory, and none gained more than this room
 pub record AddsAtMost (room : Room) (old new : Work) : Type 0 where
-  pub packets : vec_len new.packets ≤ vec_len old.packets + room.packets
+  pub packets : length new.packets.items ≤ length old.packets.items + room.packets
   pub reports : vec_len new.reports ≤ vec_len old.reports + room.reports
   pub answers : vec_len new.answers ≤ vec_len old.answers + room.answers
   pub steps : vec_len new.steps ≤ vec_len old.steps + room.steps
-  pub packets_in_place : vec_capacity new.packets ≡ vec_capacity old.packets
+  pub packets_in_place : new.packets.fits ≡ old.packets.fits
   pub reports_in_place : vec_capacity new.reports ≡ vec_capacity old.reports
   pub answers_in_place : vec_capacity new.answers ≡ vec_capacity old.answers
   pub steps_in_place : vec_capacity new.steps ≡ vec_capacity old.steps

@@ -190,6 +190,44 @@ fn node_gives(alloc: Global, second: &[Row], third: &[Row]) -> Result<(), Fail> 
     both_give(alloc, &mut node, second, third)
 }
 
+/// So many links are made: with the wired one, process 0 has 81 ends.
+const LINKS: u32 = 40;
+
+/// Process 0 makes its links and exits: more packets tell of that than lie whole.
+fn exits_with_many(alloc: Global, node: &mut Node) -> Result<(), Fail> {
+    for _ in 0..LINKS {
+        let mut text = String::new(alloc);
+        holds(happens(node, &mut text, Act::Make, P0), "a link is made")?;
+    }
+    let mut text = String::new(alloc);
+    holds(happens(node, &mut text, Act::Exit, P0), "it exits")
+}
+
+/// The opposite ends are told in the order of the ends: two of each link, behind that of the wired one.
+fn told_in_order(node: &Node) -> Result<(), Fail> {
+    holds(node.told_end(0) == Some(B), "the wired end")?;
+    for n in 0..LINKS {
+        let at = 2 * n as usize;
+        let link = LinkId {
+            maker: 0,
+            count: n + 1,
+        };
+        let (a, b) = (Side::A, Side::B);
+        let first = node.told_end(at + 1) == Some(EndId { link, side: b });
+        let second = node.told_end(at + 2) == Some(EndId { link, side: a });
+        holds(first && second, "two ends of a link")?;
+    }
+    holds(node.told_end(81).is_none(), "no other end")
+}
+
+#[test]
+fn an_exit_tells_of_many_ends(rt: HostRuntime) -> Result<(), Fail> {
+    let alloc = rt.alloc();
+    let mut node = Node::start(alloc)?;
+    exits_with_many(alloc, &mut node)?;
+    told_in_order(&node)
+}
+
 #[test]
 fn strays_are_dropped(rt: HostRuntime) -> Result<(), Fail> {
     node_gives(rt.alloc(), STRAYS, ENDS)

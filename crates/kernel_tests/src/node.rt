@@ -3,13 +3,16 @@ ghost use Rattle.std.specs.Prelude.{◌≡◌, ◌<◌, length, IfOk};
 ghost use Rattle.charlotte_calls.specs.Setting.{IsValid};
 
 use charlotte_calls::{Answer, Call, EndId, Items, Pid, ServiceStep, Setting};
-use charlotte_packets::{Effect, Packet};
+use charlotte_packets::{Effect, Packet, PacketList, Unsent, What};
 use end_table::Lent;
 use kernel_core::{Kernel, NotTaken};
 use std::alloc::{AllocError, Global};
 use std::collections::VecDeque;
 use std::fmt::{Debug, Write};
 use std::test::Fail;
+
+/// An event of a test sends fewer packets.
+const MOST_SENT: usize = 200;
 
 /// The kernel, and the packets that it has not taken, oldest first.
 #[derive(Drop)]
@@ -140,17 +143,39 @@ impl Node {
             && push_answer(text, p.0, answer).is_ok()
     }
 
-    /// The packets of an event fly, and their kinds are added. Whether they have its stamp, and are for this kernel.
-    fn send(&mut self, text: &mut String, packets: Vec<(u8, Packet)>, stamp: u64) -> bool {
-        for (to, packet) in packets {
-            let is_own = packet.stamp == stamp && to == 0;
-            let is_told = push_kind(self.alloc, text, " >", &packet.picture().what).is_ok();
-            let is_kept = self.flying.push_back(packet).is_ok();
-            if !(is_own && is_told && is_kept) {
-                return false;
+    /// The packets of an event fly, and their kinds are added. Whether they are few, have its stamp, and are for this kernel.
+    fn send(&mut self, text: &mut String, packets: PacketList, stamp: u64) -> bool {
+        let mut unsent = Unsent::of(packets);
+        for _ in 0..MOST_SENT {
+            match unsent.pop_front() {
+                None => return true,
+                Some((to, packet)) => {
+                    if to != 0 || !self.fly(text, packet, stamp) {
+                        return false;
+                    }
+                }
             }
         }
-        true
+        false
+    }
+
+    /// A packet flies, and its kind is added. Whether it has this stamp.
+    fn fly(&mut self, text: &mut String, packet: Packet, stamp: u64) -> bool {
+        let is_own = packet.stamp == stamp;
+        let is_told = push_kind(self.alloc, text, " >", &packet.picture().what).is_ok();
+        let is_kept = self.flying.push_back(packet).is_ok();
+        is_own && is_told && is_kept
+    }
+
+    /// The end to which the packet at this place flies, where that tells of destruction.
+    pub(crate) fn told_end(&self, at: usize) -> Option<EndId> {
+        match self.flying.get(at) {
+            Some(packet) => match &packet.what {
+                What::Gone { to, .. } => Some(*to),
+                _ => None,
+            },
+            None => None,
+        }
     }
 
     /// Which receive asks an end, where that is here, is added.

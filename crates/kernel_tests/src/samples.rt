@@ -5,7 +5,7 @@ ghost use Rattle.charlotte_calls.specs.declared.names.Side.TheVariants.{A};
 ghost use Rattle.kernel_step.specs.Progress.{HasRoom};
 
 use charlotte_calls::{Bytes, EndId, Ends, LinkId, NoMemory, Pid, Side};
-use charlotte_packets::{Moving, Room, Work};
+use charlotte_packets::{Moving, PacketList, Room, Work};
 use end_table::{HereView, Holder, Inward, NotStored, Outward, Table};
 use kernel_step::{no_bytes, no_ends};
 use std::alloc::Global;
@@ -37,9 +37,11 @@ pub(crate) const AMPLE: Room = Room {
 pub(crate) fn ample(alloc: Global) -> Result<Work, NoMemory>
     ensures { IfOk result (λ w. HasRoom AMPLE w) }
 {
+    let mut packets = PacketList::new(alloc);
+    packets.renew(AMPLE.packets as usize)?;
     Ok(Work {
         stamp: 5,
-        packets: Vec::with_capacity(alloc, AMPLE.packets as usize)?,
+        packets,
         reports: Vec::with_capacity(alloc, AMPLE.reports as usize)?,
         answers: Vec::with_capacity(alloc, AMPLE.answers as usize)?,
         steps: Vec::with_capacity(alloc, AMPLE.steps as usize)?,

@@ -22,7 +22,7 @@ fn push_end(text: &mut String, table: &Table, end: EndId) -> Result<(), AllocErr
 
 /// The packets and the answers that were added, and how many reports and steps.
 fn push_work(text: &mut String, out: &Work) -> Result<(), AllocError> {
-    for (to, packet) in &out.packets {
+    for (to, packet) in out.packets.lent() {
         push_packet(text, *to, packet, out.stamp)?;
     }
     for (p, answer) in &out.answers {

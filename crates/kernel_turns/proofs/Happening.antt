@@ -69,6 +69,7 @@ pub record Closes (o : LocalEvent) (effect : Effect) (k : KernelView) (old new :
   pub kernel : new.kernel ≡ k
   pub noted : new.journal.entries ≡ old.journal.entries ++ record { stamp = effect.stamp; what = happened o; steps = effect.steps.items } ∷ []
   pub unsent : new.outbox.unsent.items ≡ effect.packets.items
+  pub few : length effect.packets.items < 2 ^ 63
   pub waiting : new.outbox.waiting ≡ old.outbox.waiting
   pub answered : who ≡ effect.answered.items
   pub used : new.used ≡ old.used + 1
@@ -99,7 +100,7 @@ happens-of o effect k old new who is processes kernels there none closes =
     entry = ap (λ s. record { stamp = s; what = happened o; steps = effect.steps.items }) is.stamp ∙ ap (λ ss. record { stamp = (gives (state_of old.kernel) o).kernel.stamp; what = happened o; steps = ss }) is.steps
 
     few : length (gives (state_of old.kernel) o).packets < 2 ^ 63
-    few = omega (arith, sym (ap length is.packets_are), length-map effect.packets.items sent_picture, effect.packets.ok.0, effect.packets.ok.1, effect.packets.small)
+    few = omega (arith, sym (ap length is.packets_are), length-map effect.packets.items sent_picture, closes.few)
 
     before : (to : ℕ) → told (outbox_to old.outbox to) ≡ told (waiting_to old.outbox to)
     before to = ap (λ xs. told (waiting_to old.outbox to ++ letters_for to xs)) none ∙ ap told (append-nil (waiting_to old.outbox to))

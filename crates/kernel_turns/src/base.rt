@@ -114,6 +114,7 @@ impl Base {
         ensures noted { (what : Happened) → self.old.journal.begun ≡ Some what → self.new.journal.entries ≡ self.old.journal.entries ++ record { stamp = effect.stamp; what = what; steps = effect.steps.items } ∷ [] }
         ensures in_range { All IsEntryInRange self.new.journal.entries }
         ensures unsent { self.new.outbox.unsent.items ≡ effect.packets.items }
+        ensures few { length effect.packets.items < 2 ^ 63 }
         ensures waiting { self.new.outbox.waiting ≡ self.old.outbox.waiting }
         ensures answered { result.items ≡ effect.answered.items }
         ensures used { self.new.used ≡ self.old.used + 1 }

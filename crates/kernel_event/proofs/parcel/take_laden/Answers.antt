@@ -1,5 +1,5 @@
 -- The values that came are away and apart, and the parts of the parcel are put in order.
-use Rattle.std.proofs.Common.{vec_len, refl, ◌≡◌, ◌+◌, ◌≤◌, Option, Some, None, IsSome, IfSome, ap, ◌∙◌, arith}
+use Rattle.std.proofs.Common.{length, refl, ◌≡◌, ◌+◌, ◌≤◌, Option, Some, None, IsSome, IfSome, ap, ◌∙◌, arith}
 use Rattle.end_table.specs.Table.{entries}
 use Rattle.end_table.specs.declared.entry.HereView.{HereView}
 use Rattle.end_table.specs.declared.entry.Holder.TheVariants.{EnclosedIn}
@@ -20,10 +20,17 @@ arrive-requires-clause-apart c = by (asks c.args.head.w (entries c.args.table.no
     by None = tt
     by (Some v) = came-apart c.args.table.now.kernel c.args.made (entries c.args.table.now) c.args.moving.now v.holder c.arriving-came.result (c.arriving-came.ensures v.holder)
 
+pub len-moves-requires : goal.len-moves-requires
+len-moves-requires c = let none : length c.args.out.now.packets.items ≡ 0 = ap length c.requires.first in omega (arith, none, c.arrive.ensures.within.added.packets)
+
+pub put_behind-requires-clause-few : goal.put_behind-requires-clause-few
+put_behind-requires-clause-few c =
+    let none : length c.args.out.now.packets.items ≡ 0 = ap length c.requires.first in omega (arith, none, c.len-moves.ensures, c.arrive.ensures.within.added.packets)
+
 pub put_behind-requires-clause-upto : goal.put_behind-requires-clause-upto
 put_behind-requires-clause-upto c = by (asks c.args.head.w (entries c.args.table.now c.args.head.to)) refl c.requires.asked
   where
-    by : (o : Option HereView) → asks c.args.head.w (entries c.args.table.now c.args.head.to) ≡ o → IsSome o → c.len-moves.result + 1 ≤ vec_len c.arrived.new.out.packets
+    by : (o : Option HereView) → asks c.args.head.w (entries c.args.table.now c.args.head.to) ≡ o → IsSome o → c.len-moves.result + 1 ≤ length c.arrived.new.out.packets.items
     by None is some = cc
     by (Some v) is some =
         let enough = parcel-behind c.args.table.now.kernel c.args.head.n c.args.head.site.at c.args.head.site.hops c.copy.result c.arriving-came.result c.ends_in-ends.result v (entries c.args.table.now)
@@ -34,7 +41,7 @@ put_behind-requires-clause-upto c = by (asks c.args.head.w (entries c.args.table
         (parcel-takes c.args.table.now c.arrive.new.table c.arrived.new.table c.args.made c.args.head.to c.args.head.n c.args.head.w c.args.head.site.at c.args.head.site.hops c.copy.result c.args.moving.now
         c.arriving-came.result c.ends_in-ends.result c.args.out.now c.arrive.new.out c.arrived.new.out v is c.requires.placed c.arriving-came.ensures c.arrive.ensures.part c.arrive.ensures.within.kernel
         c.arrived.ensures.part) in
-        omega (arith, c.len-moves.ensures, c.arrive.new.out.packets.ok.0, c.arrived.new.out.packets.ok.0, enough)
+        omega (arith, c.len-moves.ensures, enough)
 
 pub returns-clause-part : goal.returns-clause-part
 returns-clause-part c =
@@ -54,5 +61,5 @@ returns-clause-part c =
         c.arriving-came.result c.ends_in-ends.result c.args.out.now c.arrive.new.out c.arrived.new.out v is c.requires.placed c.arriving-came.ensures c.arrive.ensures.part c.arrive.ensures.within.kernel
         c.arrived.ensures.part)
         c.args.made c.args.head.to c.args.moving.now c.put_behind.new.out c.len-moves.result (c.arriving-came.ensures v.holder) c.ends_in-ends.ensures
-        (c.len-moves.ensures ∙ c.arrive.new.out.packets.ok.0)
+        c.len-moves.ensures
         (c.put_behind.ensures.part (entries c.arrived.new.table))

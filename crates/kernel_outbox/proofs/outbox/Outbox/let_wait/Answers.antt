@@ -1,7 +1,13 @@
-use Rattle.std.proofs.Common.{◌<◌, length, length-set, subst, sym, ◌∙◌}
+use Rattle.std.proofs.Common.{◌<◌, length, length-set, subst, sym, ◌∙◌, arith}
 use Rattle.kernel_outbox.proofs.Going.{head-there, rest-there}
 use Rattle.kernel_outbox.proofs.Waiting.{waits-next}
 use Rattle.kernel_outbox.proofs.outbox.Outbox.let_wait.Goals as goal
+
+pub index_mut-list-requires : goal.index_mut-list-requires
+index_mut-list-requires c =
+    let below : c.from.result < length c.loop-to.self.waiting.items
+    = subst (λ m. m < length c.loop-to.self.waiting.items) (sym c.from.ensures) (head-there _ (c.in-Some.to, c.in-Some.packet) _ _ c.loop-to.invariant.within c.in-Some.ensures.items) in
+    omega (arith, below, c.loop-to.self.waiting.ok.0)
 
 pub loop-to-preserved : goal.loop-to-preserved
 loop-to-preserved c =

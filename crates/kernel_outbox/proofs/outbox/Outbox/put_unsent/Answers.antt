@@ -1,9 +1,12 @@
 use Rattle.std.proofs.Common.{◌≡◌, ◌∷◌, ap, sym, refl, ◌∙◌, arith}
 use Rattle.kernel_net.specs.Ports.{kernels_of}
 use Rattle.kernel_outbox.specs.Letters.{outbox_to, waiting_to}
-use Rattle.kernel_outbox.proofs.Going.{rest-there}
+use Rattle.kernel_outbox.proofs.Going.{head-there, rest-there}
 use Rattle.kernel_outbox.proofs.Putting.{none-more, same-more, sent-fewer, sent-full, sent-letters, sent-may, sent-none, sent-some, some-more}
 use Rattle.kernel_outbox.proofs.outbox.Outbox.put_unsent.Goals as goal
+
+pub put_one-requires-clause-there : goal.put_one-requires-clause-there
+put_one-requires-clause-there c = head-there _ (c.in-Some.to, c.in-Some.packet) _ _ c.loop-to.invariant.within c.in-Some.ensures.items
 
 pub loop-to-preserved : goal.loop-to-preserved
 loop-to-preserved c =

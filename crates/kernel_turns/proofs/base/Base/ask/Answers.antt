@@ -32,6 +32,7 @@ returns-clause-happens c =
             kernel = after.kernel;
             noted = after.noted what c.in_ok-asked.ensures.begun ∙ ap (λ es. es ++ record { stamp = effect.stamp; what = what; steps = effect.steps.items } ∷ []) c.in_ok-asked.ensures.entries;
             unsent = after.unsent;
+            few = after.few;
             waiting = after.waiting;
             answered = after.answered;
             used = after.used;
