@@ -1,20 +1,14 @@
 -- How a table keeps the messages of sends that wait, as its entries change.
-use Rattle.std.proofs.Common.{◌≡◌, ℕ, ◌≤◌, ◌<◌, ◌+◌, ◌||◌, Bool, true, false, true≢false, List, [], ◌∷◌, length, Option, None, Some, IsSome, is_some, IfSome, cond, if◌then◌else◌, refl, sym, ap, subst, ◌∙◌, arith}
-use Rattle.std.specs.HashMap.{HashMap, spare}
-use Rattle.std.specs.List.{AllByRecursion, IsDistinct, list_any}
-use Rattle.std.specs.Map.{lookup, keys_of}
+use Rattle.std.proofs.Common.{◌≡◌, ℕ, ◌≤◌, ◌<◌, ◌+◌, Bool, true, false, true≢false, List, [], length, Option, None, Some, IsSome, is_some, IfSome, if◌then◌else◌, refl, sym, ap, subst, ◌∙◌, arith}
+use Rattle.std.specs.Map.{lookup}
 use Rattle.std.specs.Prelude.{OnOk, OnErr}
 use Rattle.std.specs.declared.result.Result.{Result}
 use Rattle.std.specs.declared.result.Result.TheVariants as result
-use Rattle.std.proofs.lemmas.Map.Steps.{length-le_from_keys}
-use Rattle.std.proofs.lemmas.Map.Made.{is_some-lookup}
-use Rattle.std.proofs.lemmas.Map.Entries.{length-keys_of}
-use Rattle.std.proofs.lemmas.Map.Keys.{IsDistinct-cons}
 use Rattle.charlotte_calls.specs.declared.names.EndId.{EndId}
 use Rattle.charlotte_packets.specs.declared.picture.MovingPicture.{MovingPicture}
 use Rattle.end_table.specs.Entries.{left_entry, ended_entry, gains_one}
 use Rattle.end_table.specs.Message.{HoldsMessages, HasNoMorePlaces, waiting_message, message_of}
-use Rattle.end_table.specs.Messages.{MessagesView, HasAt}
+use Rattle.end_table.specs.Kept.{MessagesView, HasAt, HasRoom}
 use Rattle.end_table.specs.Place.{end_eq}
 use Rattle.end_table.specs.Table.{TableView, entries, HasPlace, Puts, Clears, IsHere, IfHere, IsDestroyed, IfDestroyed}
 use Rattle.end_table.specs.declared.entry.Entry.{Entry}
@@ -22,7 +16,6 @@ use Rattle.end_table.specs.declared.entry.Entry.TheVariants as entry
 use Rattle.end_table.specs.declared.entry.HereView.{HereView}
 use Rattle.end_table.specs.declared.message.Message.{Message}
 use Rattle.end_table.proofs.EndEq.{end_eq-same, end_eq-refl}
-use Rattle.end_table.proofs.Owned.{end_eq-equivalence}
 
 -- the message of an entry, if one waits there, is what these messages have of the end
 abbrev pub IsKept : MessagesView → EndId → Entry → Type 0
@@ -105,26 +98,6 @@ HoldsMessages-empty t messages nothing none empty =
       room = rw none (omega arith);
     }
 
--- a message that is new takes one place of the room
-pub room-put : {S : Type 0} (m n : HashMap EndId Message S) {old : Option Message} → old ≡ None
-    → length n.entries ≡ length m.entries + (if is_some old then 0 else 1) → spare m ≤ spare n + 1
-    → length m.entries + spare m ≤ length n.entries + spare n
-room-put m n none len room = let more = len ∙ ap (λ (o : Option Message). length m.entries + (if is_some o then 0 else 1)) none in omega arith
-
--- what is removed may take a place of the room along
-pub room-removed : {S : Type 0} (m n : HashMap EndId Message S) (b : Bool) → length n.entries + (if b then 1 else 0) ≡ length m.entries → spare m ≤ spare n
-    → length m.entries + spare m ≤ (length n.entries + spare n) + 1
-room-removed m n true len room = omega arith
-room-removed m n false len room = omega arith
-
--- nothing changes where there is nothing to remove
-pub HasAt-none : (v : MessagesView) (end : EndId) → lookup (end_eq end) v.kept ≡ None → HasAt v v end None
-HasAt-none v end none q = by (end_eq end q) refl
-  where
-    by : (b : Bool) → end_eq end q ≡ b → lookup (end_eq q) v.kept ≡ cond b None (lookup (end_eq q) v.kept)
-    by true same = subst (λ z. lookup (end_eq z) v.kept ≡ None) (end_eq-same end q same) none
-    by false apart = refl
-
 -- after a removal there is room for one message fewer at most, and one place fewer where there was a message
 pub room-fewer : (old new : TableView) (from to : MessagesView) (end : EndId) → HoldsMessages old from → HasNoMorePlaces old new
     → (HasPlace old end → length new.places < length old.places) → (lookup (end_eq end) from.kept ≡ None → from.most ≤ to.most) → from.most ≤ to.most + 1
@@ -135,39 +108,10 @@ room-fewer old new from to end holds count fewer absent room = by (lookup (end_e
     by None none = let most = absent none in let fits = holds.room in omega arith
     by (Some m) some = let less = fewer (holds.placed end (ap is_some some)) in let fits = holds.room in omega arith
 
--- no key is the same as one that is not among them
-apart_from : (q : EndId) (xs : List EndId) → list_any (end_eq q) xs ≡ false → AllByRecursion (λ y. end_eq q y ≡ false) xs
-apart_from q [] h = tt
-apart_from q (x ∷ xs) h = by (end_eq q x) refl h (apart_from q xs)
-  where
-    by : (b : Bool) → end_eq q x ≡ b → (b || list_any (end_eq q) xs) ≡ false → (list_any (end_eq q) xs ≡ false → AllByRecursion (λ y. end_eq q y ≡ false) xs)
-        → AllByRecursion (λ y. end_eq q y ≡ false) (x ∷ xs)
-    by true is h rest = absurd (true≢false h)
-    by false is h rest = (is, rest h)
-
--- where an end with a place has no message yet, there is room for one
-pub has_room : (t : TableView) (messages : MessagesView) (end : EndId) → HoldsMessages t messages → HasPlace t end
-    → IsDistinct end_eq (keys_of messages.kept) → lookup (end_eq end) messages.kept ≡ None → length messages.kept < messages.most
+-- there is room for the message of an end with a place
+pub HasRoom-placed : (t : TableView) (messages : MessagesView) (end : EndId) → HoldsMessages t messages → HasPlace t end → HasRoom messages end
 unfolding HasPlace
-has_room t messages end holds place distinct none =
-    let fits = length-le_from_keys end_eq-equivalence (end ∷ keys_of messages.kept) t.places (IsDistinct-cons end_eq end (keys_of messages.kept) (apart_from end (keys_of messages.kept) (sym (is_some-lookup (end_eq end) messages.kept) ∙ ap is_some none)) distinct)
-    (λ q h. within q (end_eq q end) refl h) in
-    let same = length-keys_of messages.kept in
-    let room = holds.room in
-    omega arith
-  where
-    within : (q : EndId) (b : Bool) → end_eq q end ≡ b → list_any (end_eq q) (end ∷ keys_of messages.kept) ≡ true → IsSome (lookup (end_eq q) t.places)
-    within q true same h = subst (λ z. IsSome (lookup (end_eq z) t.places)) (sym (end_eq-same q end same)) place
-    within q false apart h =
-        holds.placed q (is_some-lookup (end_eq q) messages.kept ∙ subst (λ b. (b || list_any (end_eq q) (keys_of messages.kept)) ≡ true) apart h)
-
--- what is not there is `None`
-pub none_from_is_some : {X : Type 0} (o : Option X) → is_some o ≡ false → o ≡ None
-none_from_is_some None h = refl
-none_from_is_some (Some x) h = absurd (true≢false h)
-
-pub some_not_none : {X : Type 0} (o : Option X) → is_some o ≡ true → o ≡ None → ⊥
-some_not_none o some none = true≢false (sym some ∙ ap is_some none)
+HasRoom-placed t messages end holds place = record { places = t.places; place = place; among = holds.placed; room = holds.room }
 
 -- a place with nothing in it has no message, and there is room for one more
 pub HoldsMessages-opened : {A B : Type 0} (old new : TableView) (end : EndId) (from to : MessagesView) (r : Result A B) → OnOk r (Puts old new end entry.Nothing) → OnErr r (new ≡ old)

@@ -6,4 +6,4 @@ pub mod Slot
 pub mod Lent
 pub mod CodedEnd
 pub mod Message
-pub mod Messages
+pub mod Kept

@@ -9,7 +9,7 @@ use Rattle.end_table.specs.declared.entry.Outward.TheVariants as outward
 use Rattle.end_table.specs.declared.entry.Sending.{Sending}
 use Rattle.end_table.specs.declared.entry.Sending.TheVariants as sending
 use Rattle.end_table.specs.declared.message.Message.{Message}
-use Rattle.end_table.specs.Messages.{MessagesView}
+use Rattle.end_table.specs.Kept.{MessagesView}
 use Rattle.end_table.specs.Place.{end_eq}
 use Rattle.end_table.specs.Table.{TableView, entries, HasPlace}
 

@@ -7,13 +7,15 @@
 //! # What is proved
 //! After each change the entry of the changed end is exactly as said, and that of every other end is as before; an end has one entry. An
 //! end that is here is borrowed as its entry, without a copy, and its fields are set in place. The message of a send that waits is kept
-//! beside the places, and what the entry says of it is what is kept; there is room for it without new memory. An `install` at an end with a
-//! place succeeds. `owned_by` gives exactly the ends of a process, in order, and such a list exists for every table.
+//! beside the places, and what the entry says of it is what is kept; there is room for it without new memory, whether it is brief or not. An
+//! `install` at an end with a place succeeds. `owned_by` gives exactly the ends of a process, in order, and such a list exists for every table.
 //! By `Puts`, `Clears`, `AreEndsOf` in the clauses; `entry` of `lend` and `look`, `view` of `here`, `owned` of `owned`; `HoldsMessages`;
 //! `has_list_of`; `entries` in `specs/Table.antt`.
 #![tactic(auto)]
 
+mod brief;
 mod entry;
+mod kept;
 mod living;
 mod message;
 mod messages;

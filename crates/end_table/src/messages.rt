@@ -1,30 +1,37 @@
-ghost use Rattle.std.specs.Prelude.{◌≡◌, ◌<◌, ◌≤◌, ◌+◌, length, [], None, Some, OnOk, option_copied};
-ghost use Rattle.std.specs.List.{IsDistinct};
-ghost use Rattle.std.specs.Map.{lookup, keys_of};
+ghost use Rattle.std.specs.Prelude.{◌≡◌, ◌≤◌, ◌+◌, [], None, Some, IsSome, IfSome, OnOk};
+ghost use Rattle.std.specs.Map.{lookup};
 ghost use Rattle.end_table.specs.Place.{end_eq};
-ghost use Rattle.end_table.specs.Messages.{HasAt};
+ghost use Rattle.end_table.specs.Kept.{HasAt, HasRoom};
+ghost use Rattle.end_table.specs.declared.entry.Outward.TheVariants.{Waiting};
 
+use crate::Outward;
+use crate::brief::Brief;
+use crate::kept::Kept;
 use crate::message::Message;
 use charlotte_calls::{EndId, NoMemory};
-use indexmap::IndexMap;
 use std::alloc::Global;
 use std::marker::Model;
 
-/// The messages of sends that wait, each with the end that sends it. Where a send does not wait any more, its message stays as
-/// it was until the next one, or until the end's place is given back. Room for more messages is not touched before it is needed.
+/// So many long messages, and so many brief ones, take some three megabytes.
+const FEW_LONG: usize = 8192;
+
+const FEW_BRIEF: usize = 32768;
+
+/// The messages of sends that wait, each with the end that sends it: brief ones apart, since a place for one has the room of the
+/// longest. Where both have a message of an end, the long one is the newer. Where a send does not wait any more, its message
+/// stays as it was until the next one, or until the end's place is given back.
 #[derive(Drop)]
 pub(crate) struct Messages {
-    kept: IndexMap<EndId, Message>,
+    long: Kept<Message>,
+    brief: Kept<Brief>,
 }
 
 impl Model for Messages {
-    ghost use Rattle.std.specs.Prelude.{length, ◌+◌};
-    ghost use Rattle.std.specs.HashMap.{spare};
-    ghost use Rattle.end_table.specs.Messages.{MessagesView};
+    ghost use Rattle.end_table.specs.Kept.{MessagesView, joined};
 
     ghost Value = { MessagesView };
 
-    ghost view = { λ m. record { kept = m.kept.entries; most = length m.kept.entries + spare m.kept } };
+    ghost view = { λ m. joined m.long m.brief };
 }
 
 impl Messages {
@@ -33,62 +40,36 @@ impl Messages {
         ensures { result.kept ≡ [] }
     {
         Messages {
-            kept: IndexMap::new(alloc),
+            long: Kept::new(alloc),
+            brief: Kept::new(alloc),
         }
     }
 
-    /// Makes room for this many messages.
+    /// Makes room for the messages of this many ends, whether they are brief or not.
     #[inline(always)]
     pub(crate) fn reserve(&mut self, most: usize) -> Result<(), NoMemory>
         ensures room { OnOk result (most ≤ self.new.most) }
         ensures same { self.new.kept ≡ self.old.kept }
         ensures kept { self.old.most ≤ self.new.most }
     {
-        if most <= self.kept.capacity() {
-            return Ok(());
-        }
-        self.grow(most)
-    }
-
-    /// The same where there is less room. Without messages nothing is moved.
-    #[inline(never)]
-    fn grow(&mut self, most: usize) -> Result<(), NoMemory>
-        requires { self.old.most < most }
-        ensures room { OnOk result (most ≤ self.new.most) }
-        ensures same { self.new.kept ≡ self.old.kept }
-        ensures kept { self.old.most ≤ self.new.most }
-    {
-        if self.kept.is_empty() {
-            self.kept = IndexMap::with_capacity(*self.kept.allocator(), most)?;
-            return Ok(());
-        }
-        self.kept.reserve(most)?;
+        self.long.reserve(most, FEW_LONG)?;
+        self.brief.reserve(most, FEW_BRIEF)?;
         Ok(())
     }
 
     /// Keeps the message of an end, in place of the one before. There is room for it where it is the first.
     pub(crate) fn put(&mut self, end: EndId, message: Message)
-        requires { IsDistinct end_eq (keys_of self.old.kept) → lookup (end_eq end) self.old.kept ≡ None → length self.old.kept < self.old.most }
+        requires { HasRoom self.old end }
         ensures put { HasAt self.old self.new end (Some message) }
         ensures room { self.old.most ≤ self.new.most }
     {
-        match self.kept.get_mut(&end) {
-            Some(place) => *place = message,
-            None => self.add(end, message),
+        if self.long.has(end) {
+            self.long.put(end, message);
+            return;
         }
-    }
-
-    /// Keeps the first message of an end.
-    #[inline(never)]
-    fn add(&mut self, end: EndId, message: Message)
-        requires room { IsDistinct end_eq (keys_of self.old.kept) → length self.old.kept < self.old.most }
-        requires absent { lookup (end_eq end) self.old.kept ≡ None }
-        ensures put { HasAt self.old self.new end (Some message) }
-        ensures room { self.old.most ≤ self.new.most }
-    {
-        match self.kept.insert(end, message) {
-            Ok(_) => {}
-            Err(_) => unreachable!(),
+        match Brief::of(&message) {
+            Some(brief) => self.brief.put(end, brief),
+            None => self.long.put(end, message),
         }
     }
 
@@ -98,16 +79,30 @@ impl Messages {
         ensures absent { lookup (end_eq end) self.old.kept ≡ None → self.old.most ≤ self.new.most }
         ensures room { self.old.most ≤ self.new.most + 1 }
     {
-        if self.kept.contains_key(&end) {
-            self.kept.swap_remove(&end);
-        }
+        self.long.forget(end);
+        self.brief.forget(end);
     }
 
-    /// What is kept of an end.
+    /// The send of this number, that waits with the message of an end.
     #[inline(always)]
-    pub(crate) fn get(&self, end: EndId) -> Option<&Message>
-        ensures { option_copied result ≡ lookup (end_eq end) self.now.kept }
+    pub(crate) fn waiting(&self, end: EndId, n: u32) -> Outward
+        requires { IsSome (lookup (end_eq end) self.now.kept) }
+        ensures { IfSome (lookup (end_eq end) self.now.kept) (λ m. result ≡ Waiting n m.bytes m.enclosed) }
     {
-        self.kept.get(&end)
+        if let Some(message) = self.long.get(end) {
+            return Outward::Waiting {
+                n,
+                bytes: message.bytes.copy(),
+                enclosed: message.enclosed.copy(),
+            };
+        }
+        match self.brief.get(end) {
+            Some(brief) => Outward::Waiting {
+                n,
+                bytes: brief.bytes(),
+                enclosed: brief.enclosed(),
+            },
+            None => unreachable!(),
+        }
     }
 }

@@ -137,14 +137,7 @@ impl Table {
     {
         match self.here(end).outward() {
             Sending::Idle => Outward::Idle,
-            Sending::Waiting { n, .. } => match self.messages.get(end) {
-                Some(message) => Outward::Waiting {
-                    n: *n,
-                    bytes: message.bytes.copy(),
-                    enclosed: message.enclosed.copy(),
-                },
-                None => unreachable!(),
-            },
+            Sending::Waiting { n, .. } => self.messages.waiting(end, *n),
             Sending::Matched { n } => Outward::Matched { n: *n },
             Sending::Unreported => Outward::Unreported,
         }

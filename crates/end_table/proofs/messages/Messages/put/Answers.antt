@@ -1,33 +1,25 @@
-use Rattle.std.proofs.Common.{◌≡◌, ◌<◌, None, is_some, length, ap, sym, subst, arith}
-use Rattle.std.specs.List.{IsDistinct}
-use Rattle.std.specs.Map.{lookup, keys_of}
-use Rattle.end_table.specs.Place.{end_eq}
+use Rattle.std.proofs.Common.{Some, sym, subst, ◌∙◌}
+use Rattle.end_table.specs.Kept.{HasAt, HasRoom}
+use Rattle.end_table.proofs.Keeping.{HasAt-first, HasAt-second, HasRoom-first, HasRoom-second, none_from_is_some}
 use Rattle.end_table.proofs.messages.Messages.put.Goals as goal
 
-pub add-requires-clause-room : goal.add-requires-clause-room
-unfolding end_eq
-add-requires-clause-room c =
-    rw c.get_mut.follows.holds-at-none
-    (λ distinct. subst (λ v. IsDistinct end_eq (keys_of v.kept) → lookup (end_eq c.args.end) v.kept ≡ None → length v.kept < v.most) (sym c.self.view_is) c.requires distinct (sym c.in-None.ensures.value))
+pub put-requires : goal.put-requires
+put-requires c = HasRoom-first c.self.inside.long c.self.inside.brief c.args.end (subst (λ v. HasRoom v c.args.end) (sym c.self.view_is) c.requires)
 
-pub add-requires-clause-absent : goal.add-requires-clause-absent
-unfolding end_eq
-add-requires-clause-absent c = rw c.get_mut.follows.holds-at-none (sym c.in-None.ensures.value)
+pub returns-then-has-clause-put : goal.returns-then-has-clause-put
+returns-then-has-clause-put c = rw (← c.self.view_is) (HasAt-first c.self.inside.long c.self.inside.brief c.args.end c.put.new.self c.args.message c.put.ensures.put)
+
+pub put-requires-in-Some : goal.put-requires-in-Some
+put-requires-in-Some c = HasRoom-second c.self.inside.long c.self.inside.brief c.args.end (subst (λ v. HasRoom v c.args.end) (sym c.self.view_is) c.requires)
+
+pub put-requires-in-None : goal.put-requires-in-None
+put-requires-in-None c = HasRoom-first c.self.inside.long c.self.inside.brief c.args.end (subst (λ v. HasRoom v c.args.end) (sym c.self.view_is) c.requires)
 
 pub returns-in-Some-clause-put : goal.returns-in-Some-clause-put
-unfolding end_eq
-returns-in-Some-clause-put c = rw (← c.self.view_is) ((c.get_mut.follows.holds c.args.message).3 (sym (ap is_some c.in-Some.ensures.value))).0
-
-pub returns-in-Some-clause-room : goal.returns-in-Some-clause-room
-unfolding end_eq
-returns-in-Some-clause-room c =
-    let len = (c.get_mut.follows.holds c.args.message).2 in
-    let room = (c.get_mut.follows.holds c.args.message).6 in
-    rw (← c.self.view_is) (omega arith)
+returns-in-Some-clause-put c =
+    rw (← c.self.view_is)
+    (HasAt-second c.self.inside.long c.self.inside.brief c.args.end c.put-in-Some.new.self c.args.message (none_from_is_some _ (sym c.has.ensures ∙ c.if-has.false))
+    (subst (λ m. HasAt c.self.inside.brief c.put-in-Some.new.self c.args.end (Some m)) c.in-Some.ensures.same c.put-in-Some.ensures.put))
 
 pub returns-in-None-clause-put : goal.returns-in-None-clause-put
-unfolding end_eq
-returns-in-None-clause-put c = rw (← c.self.view_is, ← c.get_mut.follows.holds-at-none) c.add.ensures.put
-
-pub returns-in-None-clause-room : goal.returns-in-None-clause-room
-returns-in-None-clause-room c = rw (← c.self.view_is, ← c.get_mut.follows.holds-at-none) c.add.ensures.room
+returns-in-None-clause-put c = rw (← c.self.view_is) (HasAt-first c.self.inside.long c.self.inside.brief c.args.end c.put-in-None.new.self c.args.message c.put-in-None.ensures.put)

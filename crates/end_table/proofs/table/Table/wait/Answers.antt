@@ -4,11 +4,11 @@ use Rattle.end_table.specs.declared.entry.Entry.TheVariants.{Here}
 use Rattle.end_table.specs.Message.{outward_of}
 use Rattle.end_table.specs.declared.entry.Sending.TheVariants as sending
 use Rattle.end_table.proofs.Change.{HasPlace-here}
-use Rattle.end_table.proofs.Holding.{ChangesAt-HasAt, HoldsMessages-changes, has_room, is-HasAt, seen}
+use Rattle.end_table.proofs.Holding.{ChangesAt-HasAt, HasRoom-placed, HoldsMessages-changes, is-HasAt, seen}
 use Rattle.end_table.proofs.table.Table.wait.Goals as goal
 
 pub put-requires : goal.put-requires
-put-requires c = has_room _ _ c.args.end c.self.invariant (HasPlace-here _ _ (subst (λ t. IsHere (entries t c.args.end)) (sym c.self.view_is) c.requires.here))
+put-requires c = HasRoom-placed _ _ c.args.end c.self.invariant (HasPlace-here _ _ (subst (λ t. IsHere (entries t c.args.end)) (sym c.self.view_is) c.requires.here))
 
 pub invariant_of-self : goal.invariant_of-self
 invariant_of-self c =
