@@ -1,4 +1,5 @@
 pub mod Grid
+pub mod Learned
 pub mod Lists
 pub mod Nets
 pub mod Ports

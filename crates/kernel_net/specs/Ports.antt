@@ -1,7 +1,7 @@
 -- Ports, and the net that they make together.
 use Rattle.std.specs.Prelude.{◌≡◌, ◌≢◌, ◌+◌, ◌<◌, ◌≤◌, ℕ, List, [], ◌∷◌, ◌++◌, All, length, map, set, slice_index_or}
 use mathlib.Core.List.{IsPrefix}
-use Rattle.kernel_net.specs.Rings.{Ring, Outlet, Inlet, Gets, capacity_of}
+use Rattle.kernel_net.specs.Rings.{Ring, Outlet, Inlet, Gets, Learns, capacity_of}
 use Rattle.kernel_net.specs.declared.letter.Letter.{Letter}
 use Rattle.kernel_net.specs.Letters.{MayBePut}
 
@@ -124,6 +124,12 @@ pub record AreAllThere (putter getter : PortView) : Type 0 where
 pub record GetsFirst (from : ℕ) (letter : Letter) (old new : List Inlet) : Type 0 where
   pub kernel : from < length old
   pub got : (i : Inlet) × Gets letter (slice_index_or old from i) i × (new ≡ set old from i)
+  pub before : (q : ℕ) (d : Inlet) → q < from → (slice_index_or old q d).known ≡ []
+
+-- a letter is known in this ring, of which more was learned, and none in those before it
+pub record FindsFirst (from : ℕ) (old new : List Inlet) : Type 0 where
+  pub kernel : from < length old
+  pub learned : (i : Inlet) × Learns (slice_index_or old from i) i × (0 < length i.known) × (new ≡ set old from i)
   pub before : (q : ℕ) (d : Inlet) → q < from → (slice_index_or old q d).known ≡ []
 
 -- of the ring from one port to another both ends learned, and else nothing changed

@@ -66,6 +66,12 @@ pub record Gets (letter : Letter) (old new : Inlet) : Type 0 where
   pub known : IsPrefix old.known (letter ∷ new.known)
   pub allowed : MayBePut old.got letter
 
+-- more letters may be known than were, and else nothing changed
+pub record Learns (old new : Inlet) : Type 0 where
+  pub ring : new.ring ≡ old.ring
+  pub got : new.got ≡ old.got
+  pub known : IsPrefix old.known new.known
+
 -- both ends were brought together: what was got, followed by what is there, is what was put, and each place without a letter is known
 -- to be free
 pub record Looks (o o' : Outlet) (i i' : Inlet) : Type 0 where

@@ -1,7 +1,7 @@
 ghost use Rattle.std.specs.Prelude.{◌≡◌, ◌+◌, ◌<◌, ◌≤◌, ℕ, [], IfSome, IfNone, IsOk, IsSome, OnOk, IfErr, length, slice_index_or};
 ghost use Rattle.kernel_net.specs.Letters.{MayBePut};
 ghost use Rattle.kernel_net.specs.Rings.{Inlet};
-ghost use Rattle.kernel_net.specs.Ports.{place_of, kernels_of, HasPut, HasGot, HasLooked, LooksOneWay, IsJoined, AreOfOneNet, AreAllThere, GetsFirst, put_to, there_of, places_to, known_from};
+ghost use Rattle.kernel_net.specs.Ports.{place_of, kernels_of, HasPut, HasGot, HasLooked, LooksOneWay, IsJoined, AreOfOneNet, AreAllThere, FindsFirst, GetsFirst, put_to, there_of, places_to, known_from};
 
 use crate::Letter;
 use crate::ring::{Getter, Putter};
@@ -92,9 +92,21 @@ fn get_first(into: &mut Vec<Getter>) -> Option<(u8, Letter)>
     ensures some { IfSome result (λ r. GetsFirst r.0 r.1 into.old.items into.new.items) }
     ensures none { IfNone result ((into.new.items ≡ into.old.items) × ((from : ℕ) (d : Inlet) → from < length into.new.items → (slice_index_or into.new.items from d).known ≡ [])) }
 {
+    let Some(from) = first_known(into) else {
+        return None;
+    };
+    Some((from, into[usize::from(from)].get_known()))
+}
+
+/// The first of these rings in which a letter is known.
+fn first_known(into: &mut Vec<Getter>) -> Option<u8>
+    requires { length into.old.items ≤ 256 }
+    ensures some { IfSome result (λ from. FindsFirst from into.old.items into.new.items) }
+    ensures none { IfNone result ((into.new.items ≡ into.old.items) × ((from : ℕ) (d : Inlet) → from < length into.new.items → (slice_index_or into.new.items from d).known ≡ [])) }
+{
     for from in 0..into.len() {
-        if let Some(letter) = into[from].get() {
-            return Some((from as u8, letter));
+        if !into[from].is_empty() {
+            return Some(from as u8);
         }
     }
     None

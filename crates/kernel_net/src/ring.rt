@@ -1,6 +1,6 @@
-ghost use Rattle.std.specs.Prelude.{◌≡◌, ◌≤◌, [], IfOk, IfSome, IfNone, OnOk, IfErr, length};
+ghost use Rattle.std.specs.Prelude.{◌≡◌, ◌↔◌, ◌<◌, ◌≤◌, [], IfOk, OnOk, IfErr, IsTrue, length};
 ghost use Rattle.kernel_net.specs.Letters.{MayBePut};
-ghost use Rattle.kernel_net.specs.Rings.{IsFreshRing, Gets, Puts, Looks, capacity_of};
+ghost use Rattle.kernel_net.specs.Rings.{IsFreshRing, Gets, Learns, Puts, Looks, capacity_of};
 
 use crate::letter::{Letter, LetterRule};
 use charlotte_calls::NoMemory;
@@ -67,12 +67,20 @@ impl Putter {
 }
 
 impl Getter {
-    /// Gets the first letter that is there; `None` exactly where none is known. Where none is, it first learns what the other end put.
-    pub(crate) fn get(&mut self) -> Option<Letter>
-        ensures some { IfSome result (λ letter. Gets letter self.old self.new) }
-        ensures none { IfNone result ((self.new ≡ self.old) × (self.new.known ≡ [])) }
+    /// Whether no letter is known. Where none is, it first learns what the other end put.
+    pub(crate) fn is_empty(&mut self) -> bool
+        ensures known { IsTrue result ↔ (self.new.known ≡ []) }
+        ensures learns { Learns self.old self.new }
     {
-        self.ring.pop().ok()
+        self.ring.is_empty()
+    }
+
+    /// Gets the first letter, where one is known.
+    pub(crate) fn get_known(&mut self) -> Letter
+        requires { 0 < length self.old.known }
+        ensures { Gets result self.old self.new }
+    {
+        self.ring.pop_known()
     }
 
     /// Brings both ends of the ring together: how many letters are there.
