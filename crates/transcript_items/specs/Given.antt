@@ -1,5 +1,6 @@
 -- Which line the kernels give in the place of a line.
-use Rattle.std.specs.Prelude.{ℕ, max, if◌then◌else◌, List, ◌++◌, Option, Some, None, option_map, unwrap_or, codes}
+use Rattle.std.specs.Prelude.{ℕ, max, if◌then◌else◌, List, [], ◌∷◌, ◌++◌, Option, Some, None, option_map, unwrap_or, codes}
+use Rattle.std.specs.List.{flat_map, range_with_len}
 use Rattle.charlotte_calls.specs.declared.calls.ServiceStep.{ServiceStep}
 use Rattle.charlotte_calls.specs.declared.names.Pid.{Pid}
 use Rattle.charlotte_packets.specs.declared.picture.Picture.{Picture}
@@ -12,6 +13,7 @@ use Rattle.transcript_reading.specs.declared.line.LineKind.{LineKind}
 use Rattle.transcript_reading.specs.declared.line.LineKind.TheVariants as line
 use Rattle.transcript_replay.specs.Course.{comes_after}
 use Rattle.transcript_items.specs.Kept.{Kept, doing_of, first_due, first_packet, stamp_of}
+use Rattle.transcript_items.specs.Texts.{filled}
 use Rattle.transcript_items.specs.declared.kernels.Doing.{Doing}
 use Rattle.transcript_items.specs.declared.kernels.Doing.TheVariants as doing
 
@@ -63,3 +65,27 @@ given_with k kind None = given_entry k kind
 -- the one line that the kernels give in the place of a line, if they give one
 abbrev pub given : Kept → LineKind → Option (List ℕ)
 given k kind = given_with k kind (first_due k)
+
+-- ---- each entry that may stand next
+
+-- the call of a process, with its stamp and kernel
+abbrev pub call_forms : Pid → Option (ℕ × ℕ) → List (List ℕ)
+call_forms p None = []
+call_forms p (Some at) = filled (codes "# k# p# CALL") (at.0 ∷ at.1 ∷ p.0 ∷ []) ∷ []
+
+abbrev pub calls_of : Kept → ℕ → List (List ℕ)
+calls_of k number = call_forms (record { 0 = number }) (next_call k (record { 0 = number }))
+
+abbrev pub listed_line : Option (List ℕ) → List (List ℕ)
+listed_line None = []
+listed_line (Some l) = l ∷ []
+
+abbrev pub takings_from : Kept → ℕ → ℕ → List (List ℕ)
+takings_from k kernel from = listed_line (next_taking k from kernel)
+
+abbrev pub takings_at : Kept → ℕ → List (List ℕ)
+takings_at k kernel = flat_map (takings_from k kernel) (range_with_len 0 k.setting.kernels)
+
+-- a call of each process that runs, and the first packet from each kernel to each
+unfoldable pub next_entries : Kept → List (List ℕ)
+next_entries k = flat_map (calls_of k) (range_with_len 0 64) ++ flat_map (takings_at k) (range_with_len 0 k.setting.kernels)

@@ -1,18 +1,20 @@
 //! The lines that the kernels give next.
-ghost use Rattle.std.specs.Prelude.{◌≡◌, IfOk, Some, max, option_map, unwrap_or};
+ghost use Rattle.std.specs.Prelude.{◌≡◌, IfOk, OnOk, Some, max, option_map, unwrap_or};
+ghost use Rattle.std.specs.List.{flat_map, range_with_len};
 ghost use Rattle.charlotte_packets.specs.Packets.{packet_picture};
 ghost use Rattle.kernel_entries.specs.declared.entry.Happened.TheVariants.{Asked};
 ghost use Rattle.kernel_step.specs.Kernel.{next_stamp};
-ghost use Rattle.transcript_items.specs.Given.{call_at, entry_text, given, given_entry, next_call, next_taking, placed, taking_of};
+ghost use Rattle.transcript_items.specs.Given.{call_at, calls_of, entry_text, given, given_entry, listed_line, next_call, next_entries, next_taking, placed, taking_of, takings_at, takings_from};
 ghost use Rattle.transcript_replay.specs.Course.{comes_after};
+ghost use Rattle.transcript_shown.specs.Listing.{with_items};
 
 use crate::kernels::{Doing, Kernels};
-use crate::lines::{call_line, packet_line, push_call_form, step_line};
+use crate::lines::{call_form, call_line, packet_line, step_line};
 use charlotte_calls::{Call, NoMemory, Pid};
 use charlotte_packets::Packet;
-use charlotte_text::Listing;
 use std::alloc::Global;
 use transcript_reading::LineKind;
+use transcript_shown::Listing;
 
 /// The one line that the kernels give in the place of a line: the step that is due, or the entry with its right numbers, if it may stand there.
 pub fn given_line<K: Kernels>(
@@ -170,40 +172,94 @@ pub fn add_next_entries<K: Kernels>(
     kernels: &K,
 ) -> Result<(), NoMemory>
     requires { K.stand kernels.now }
+    ensures { OnOk result (lines.new ≡ with_items (next_entries (K.kept kernels.now)) lines.old) }
 {
-    for number in 0..64 {
-        add_call(lines, kernels, Pid(number))?;
-    }
-    for kernel in 0..kernels.count() {
-        add_packets(alloc, lines, kernels, kernel)?;
+    add_calls(alloc, lines, kernels, 64)?;
+    add_takings(alloc, lines, kernels)?;
+    Ok(())
+}
+
+/// Adds a call of each process below a number, if it runs and the merge has a place for it.
+fn add_calls<K: Kernels>(
+    alloc: Global,
+    lines: &mut Listing,
+    kernels: &K,
+    below: u16,
+) -> Result<(), NoMemory>
+    requires { K.stand kernels.now }
+    ensures { OnOk result (lines.new ≡ with_items (flat_map (calls_of (K.kept kernels.now)) (range_with_len 0 below)) lines.old) }
+{
+    for number in 0..below {
+        add_call(alloc, lines, kernels, Pid(number))?;
     }
     Ok(())
 }
 
-/// A call of a process, if it runs and the merge has a place for it.
-fn add_call<K: Kernels>(lines: &mut Listing, kernels: &K, p: Pid) -> Result<(), NoMemory>
+fn add_call<K: Kernels>(
+    alloc: Global,
+    lines: &mut Listing,
+    kernels: &K,
+    p: Pid,
+) -> Result<(), NoMemory>
     requires { K.stand kernels.now }
+    ensures { OnOk result (lines.new ≡ with_items (calls_of (K.kept kernels.now) p.0) lines.old) }
 {
-    let Some((stamp, kernel)) = call_place(kernels, p) else {
-        return Ok(());
-    };
-    lines.begin()?;
-    push_call_form(&mut lines.text, stamp, kernel, p)
+    match call_place(kernels, p) {
+        Some((stamp, kernel)) => {
+            let form = call_form(alloc, stamp, kernel, p)?;
+            lines.add(form.as_slice())
+        }
+        None => Ok(()),
+    }
 }
 
-/// The first packet to a kernel from each.
-fn add_packets<K: Kernels>(
+/// Adds the first packet to each kernel from each, if the merge has a place for it.
+fn add_takings<K: Kernels>(alloc: Global, lines: &mut Listing, kernels: &K) -> Result<(), NoMemory>
+    requires { K.stand kernels.now }
+    ensures { OnOk result (lines.new ≡ with_items (flat_map (takings_at (K.kept kernels.now)) (range_with_len 0 (K.kept kernels.now).setting.kernels)) lines.old) }
+{
+    for kernel in 0..kernels.count() {
+        add_takings_at(alloc, lines, kernels, kernel)?;
+    }
+    Ok(())
+}
+
+fn add_takings_at<K: Kernels>(
     alloc: Global,
     lines: &mut Listing,
     kernels: &K,
     kernel: u8,
 ) -> Result<(), NoMemory>
     requires { K.stand kernels.now }
+    ensures { OnOk result (lines.new ≡ with_items (takings_at (K.kept kernels.now) kernel) lines.old) }
 {
     for from in 0..kernels.count() {
-        if let Some(line) = first_packet(alloc, kernels, from, kernel)? {
-            lines.add(line.as_slice())?;
-        }
+        add_taking(alloc, lines, kernels, from, kernel)?;
     }
     Ok(())
+}
+
+fn add_taking<K: Kernels>(
+    alloc: Global,
+    lines: &mut Listing,
+    kernels: &K,
+    from: u8,
+    kernel: u8,
+) -> Result<(), NoMemory>
+    requires { K.stand kernels.now }
+    ensures { OnOk result (lines.new ≡ with_items (takings_from (K.kept kernels.now) kernel from) lines.old) }
+{
+    let line = first_packet(alloc, kernels, from, kernel)?;
+    add_listed(lines, line)?;
+    Ok(())
+}
+
+/// Adds a line, if there is one.
+fn add_listed(lines: &mut Listing, line: Option<Vec<u8>>) -> Result<(), NoMemory>
+    ensures { OnOk result (lines.new ≡ with_items (listed_line (option_map (λ l. l.items) line)) lines.old) }
+{
+    match line {
+        Some(line) => lines.add(line.as_slice()),
+        None => Ok(()),
+    }
 }

@@ -1,8 +1,9 @@
 //! Lines as a transcript has them, without their line feeds.
-ghost use Rattle.std.specs.Prelude.{◌≡◌, ◌++◌, IfOk, codes};
+ghost use Rattle.std.specs.Prelude.{◌≡◌, ◌++◌, ◌∷◌, [], IfOk, codes};
 ghost use Rattle.charlotte_packets.specs.Packets.{packet_picture};
 ghost use Rattle.charlotte_text.specs.Spelling.{number_text};
 ghost use Rattle.kernel_entries.specs.declared.entry.Happened.TheVariants.{Asked, Took};
+ghost use Rattle.transcript_items.specs.Texts.{filled};
 ghost use Rattle.transcript_lines.specs.Transcript.{happened_text, step_text};
 
 use crate::texts::fill;
@@ -53,16 +54,15 @@ pub(crate) fn step_line(alloc: Global, step: &ServiceStep) -> Result<Vec<u8>, No
     Ok(line)
 }
 
-/// Appends the form of a call of a process that runs.
-pub(crate) fn push_call_form(
-    out: &mut Vec<u8>,
-    stamp: u64,
-    kernel: u8,
-    p: Pid,
-) -> Result<(), NoMemory> {
+/// The form of a call of a process that runs.
+pub(crate) fn call_form(alloc: Global, stamp: u64, kernel: u8, p: Pid) -> Result<Vec<u8>, NoMemory>
+    ensures { IfOk result (λ l. l.items ≡ filled (codes "# k# p# CALL") (stamp ∷ kernel ∷ p.0 ∷ [])) }
+{
+    let mut form = Vec::new(alloc);
     fill(
-        out,
+        &mut form,
         b"# k# p# CALL",
         &[stamp, u64::from(kernel), u64::from(p.0)],
-    )
+    )?;
+    Ok(form)
 }

@@ -40,6 +40,10 @@ IsBehindHeader _ = ⊥
 abbrev pub setting_before : List ℕ → ℕ → Setting
 setting_before bytes number = tell_all (lines_before bytes number).0 untold
 
+-- the place behind them
+abbrev pub place_before : List ℕ → ℕ → Place
+place_before bytes number = (lines_before bytes number).1.place
+
 -- what the line of a number shows, if it can stand there
 abbrev pub line_shown : List ℕ → ℕ → Option LineKind
 line_shown bytes number = shown_next (next_line (lines_before bytes number).1)

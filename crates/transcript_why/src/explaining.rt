@@ -1,19 +1,20 @@
 //! The three lines that tell why.
-ghost use Rattle.std.specs.Prelude.{◌≡◌, ◌<◌, IfOk, IfSome, codes, length, map};
+ghost use Rattle.std.specs.Prelude.{◌≡◌, ◌<◌, IfOk, codes, length, map};
 ghost use Rattle.transcript_items.specs.Given.{given};
 ghost use Rattle.transcript_items.specs.Texts.{kept_text};
+ghost use Rattle.transcript_reader.specs.Lines.{seen};
+ghost use Rattle.transcript_why.specs.Expected.{TellsGiven, forms_told};
 ghost use Rattle.transcript_why.specs.Why.{AreWhy, Tells};
 
 use crate::expected::{OR, expected_lines};
 use crate::following::{Behind, run_before};
 use crate::reached::{next_kind, read_setting};
 use charlotte_calls::NoMemory;
-use charlotte_text::Listing;
 use std::alloc::Global;
 use transcript_expected::expected_forms;
 use transcript_items::{Kernels, kept_items};
 use transcript_reader::{LineKind, Place};
-use transcript_shown::{labelled_line, line_at, standing_line};
+use transcript_shown::{Listing, labelled_line, line_at, standing_line};
 
 /// What is told of the place of a line.
 #[derive(Drop)]
@@ -63,12 +64,13 @@ fn tell_reasons<K: Kernels>(alloc: Global, bytes: &[u8], number: u32) -> Result<
 
 /// The forms of the lines that may stand in a place of a line, where no kernels are kept.
 fn by_forms(alloc: Global, place: Place, version: u8, line: &[u8]) -> Result<Reasons, NoMemory>
-    ensures { IfOk result (λ r. r.kept.items ≡ codes "nothing") }
+    ensures expected { IfOk result (λ r. r.expected.items ≡ forms_told (seen place) version line.now) }
+    ensures kept { IfOk result (λ r. r.kept.items ≡ codes "nothing") }
 {
     let mut forms = Listing::new(alloc, OR);
     expected_forms(&mut forms, place, version, line)?;
     Ok(Reasons {
-        expected: forms.text,
+        expected: forms.into_text(),
         kept: b"nothing".to_vec(alloc)?,
     })
 }
@@ -81,7 +83,7 @@ fn differing<K: Kernels>(
     kind: &LineKind,
 ) -> Result<Reasons, NoMemory>
     requires { K.stand kernels.now }
-    ensures expected { IfOk result (λ r. IfSome (given (K.kept kernels.now) kind.now) (λ line. r.expected.items ≡ line)) }
+    ensures expected { IfOk result (λ r. TellsGiven (given (K.kept kernels.now) kind.now) (seen place) (K.kept kernels.now) r.expected.items) }
     ensures kept { IfOk result (λ r. r.kept.items ≡ kept_text (K.kept kernels.now) kind.now) }
 {
     Ok(Reasons {

@@ -4,9 +4,11 @@
 //! # What is proved
 //! `explain` gives three lines. The first is the line of the number as it stands in the text, byte by byte, with a mark where no line feed ends
 //! it. Where that line can stand and the lines before it can be followed, the third tells just the items that bear on it, of what is kept once
-//! these lines were followed, no more and no fewer, and the second is the one line that the kernels give there, where they give one. Else the
-//! third says `nothing`. What the second line says where the kernels give no one line is tested only. Each is one line of printable ASCII.
-//! By the clause of `explain`; `AreWhy` in `specs/Why.antt`, `IsKept` in `specs/Before.antt`.
+//! these lines were followed, no more and no fewer, and the second is the one line that the kernels give there, or, where they give none, each
+//! line that may stand there. Else the third says `nothing`, and the second the forms that `transcript_expected` tells of this line and place.
+//! Each is one line of printable ASCII.
+//! By the clause of `explain`; `AreWhy` in `specs/Why.antt`, `IsKept` in `specs/Before.antt`, `forms_told` and `TellsGiven` in
+//! `specs/Expected.antt`.
 #![tactic(auto)]
 
 mod expected;
