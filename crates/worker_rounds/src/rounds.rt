@@ -10,9 +10,10 @@ use crate::printing::{print_transcript, tell};
 use crate::trouble::Trouble;
 use charlotte_calls::{NoMemory, Setting};
 use kernel_net::Net;
-use kernel_worker::{End, NoWatch, Node, Orders, run_serial};
+use kernel_worker::{End, NoGate, NoWatch, Node, Orders, run_nodes, run_serial};
 use node_start::start_nodes;
 use std::alloc::Global;
+use std::thread::Threads;
 
 /// How many letters a ring holds.
 const LETTERS: u16 = 64;
@@ -27,11 +28,15 @@ const ORDERS: Orders = Orders {
 pub(crate) type Worked = Node<Cycle, NoWatch>;
 
 /// Makes a run, and tells of it.
-pub(crate) fn run(rt: &HostRuntime, options: &Options) -> Result<(), Trouble> {
+pub(crate) fn run<R: Threads + Sync>(
+    rt: &HostRuntime,
+    threads: &R,
+    options: &Options,
+) -> Result<(), Trouble> {
     let alloc = rt.alloc();
     let Plan { setting, moves } = options.kind.plan(alloc)?;
     let mut nodes = nodes_of(alloc, &setting, moves, options.rounds)?;
-    drive(&mut nodes)?;
+    drive(threads, &mut nodes, options.workers)?;
     if options.prints {
         print_transcript(rt, alloc, setting, nodes)
     } else {
@@ -40,13 +45,29 @@ pub(crate) fn run(rt: &HostRuntime, options: &Options) -> Result<(), Trouble> {
 }
 
 /// Runs nodes until they are quiet.
-fn drive(nodes: &mut Vec<Worked>) -> Result<(), Trouble>
+fn drive<R: Threads + Sync>(rt: &R, nodes: &mut Vec<Worked>, workers: bool) -> Result<(), Trouble>
     requires { AreRunnable nodes.old.items }
     ensures { OnOk result (length nodes.new.items ≤ 8) }
 {
-    match run_serial(nodes)? {
+    match end_of(rt, nodes, workers)? {
         End::Quiet => Ok(()),
         End::Spent { .. } => Err(Trouble::Spent),
+    }
+}
+
+/// How nodes end that run with a worker for each, or one after the other.
+fn end_of<R: Threads + Sync>(
+    rt: &R,
+    nodes: &mut Vec<Worked>,
+    workers: bool,
+) -> Result<End, NoMemory>
+    requires { AreRunnable nodes.old.items }
+    ensures { OnOk result (length nodes.new.items ≤ 8) }
+{
+    if workers {
+        run_nodes(rt, nodes, &NoGate)
+    } else {
+        run_serial(nodes)
     }
 }
 

@@ -22,7 +22,7 @@ impl Trouble {
     pub(crate) fn text(&self) -> &'static str {
         match self {
             Trouble::Words => {
-                "words: KIND ROUNDS, then print or nothing; KIND is ping, ring, pairs, all, hot, crowd, think or alone; 1 to 100000 ROUNDS"
+                "words: KIND ROUNDS, then workers, print, both or nothing; KIND is ping, ring, pairs, all, hot, crowd, think or alone; 1 to 100000 ROUNDS"
             }
             Trouble::Setting => "a kind that is no setting",
             Trouble::NoMemory => "no memory",

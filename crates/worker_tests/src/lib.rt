@@ -1,10 +1,16 @@
-//! Tests of runs of nodes, one after the other, through `start_nodes` and `run_serial`: lists of calls on one kernel and on several. Each
-//! transcript, the merge of the nodes' journals, is read by `audit`.
+//! Tests of runs of nodes, one after the other and with a worker for each, through `start_nodes`, `run_serial`, `run_nodes` and
+//! `run_nodes_with`: lists of calls on one kernel and on several. Each transcript, the merge of the nodes' journals, is read by `audit`.
 #![tactic(auto)]
 
+#[cfg(test)]
+mod besides;
+#[cfg(test)]
+mod gates;
 #[cfg(test)]
 mod nodes;
 #[cfg(test)]
 mod runs;
 #[cfg(test)]
 mod snapshots;
+#[cfg(test)]
+mod workers;

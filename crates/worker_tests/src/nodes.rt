@@ -1,4 +1,4 @@
-//! Runs of nodes whose processes ask the calls of a script.
+//! Nodes whose processes ask the calls of a script, and what their runs leave.
 ghost use Rattle.std.specs.Prelude.{◌≡◌, ◌<◌, ◌≤◌, ℕ, None, All, IfOk, OnOk, length, map};
 ghost use Rattle.charlotte_calls.specs.Setting.{IsValid};
 ghost use Rattle.kernel_net.specs.Ports.{IsFresh, IsNet, place_of};
@@ -39,6 +39,13 @@ impl Making {
     }
 }
 
+/// Nodes before their first turns.
+#[derive(Drop)]
+pub(crate) struct Started {
+    pub(crate) setting: Setting,
+    pub(crate) nodes: Nodes,
+}
+
 /// What is left of a run.
 #[derive(Drop)]
 pub(crate) struct Ran {
@@ -48,20 +55,35 @@ pub(crate) struct Ran {
 }
 
 /// The nodes of a test.
-type Nodes = Vec<Node<CallList, NoWatch>>;
+pub(crate) type Nodes = Vec<Node<CallList, NoWatch>>;
 
 /// Fails the test, and tells what was looked at, unless this holds.
 pub(crate) fn holds(is_so: bool, what: &str) -> Result<(), Fail> {
     if is_so { Ok(()) } else { Err(what.into()) }
 }
 
-/// Runs nodes whose processes ask the calls of a script in version 2, each its own, in their order. The transcript is that of a run that
-/// ended so.
-pub(crate) fn run(alloc: Global, making: Making, script: &str) -> Result<Ran, Fail> {
+/// The nodes of a script in version 2, whose processes ask its calls, each its own, in their order.
+pub(crate) fn start(alloc: Global, making: Making, script: &str) -> Result<Started, Fail>
+    ensures { IfOk result (λ started. AreRunnable started.nodes.items) }
+{
     let Script { setting, lines } = read(alloc, script)?;
     let programs = programs_of(alloc, setting.homes.len(), lines.as_slice())?;
-    let mut nodes = nodes_of(alloc, making, &setting, programs)?;
+    let nodes = nodes_of(alloc, making, &setting, programs)?;
+    Ok(Started { setting, nodes })
+}
+
+/// Runs the nodes of a script one after the other.
+pub(crate) fn run(alloc: Global, making: Making, script: &str) -> Result<Ran, Fail> {
+    let Started { setting, nodes } = start(alloc, making, script)?;
+    let mut nodes = nodes;
     let last = run_of(&mut nodes)?;
+    left(alloc, setting, nodes, last)
+}
+
+/// What nodes leave, whose transcript is that of a run that ended so.
+pub(crate) fn left(alloc: Global, setting: Setting, nodes: Nodes, last: Last) -> Result<Ran, Fail>
+    requires { length nodes.items ≤ 8 }
+{
     let courses = courses_of(alloc, &nodes)?;
     let text = transcript(alloc, setting, nodes, last)?;
     holds(
@@ -173,7 +195,7 @@ fn run_of(nodes: &mut Nodes) -> Result<Last, NoMemory>
 }
 
 /// The last line of a run that ended so.
-fn last_of(end: End) -> Last {
+pub(crate) fn last_of(end: End) -> Last {
     match end {
         End::Quiet => Last::Quiet,
         End::Spent { kernel } => Last::Spent(kernel),

@@ -5,7 +5,7 @@ use std::alloc::Global;
 use std::test::Fail;
 
 /// Rings of 64 letters, as the programs have, and turns enough.
-const AMPLE: Making = Making {
+pub(crate) const AMPLE: Making = Making {
     letters: 64,
     limit: 100,
     begins: None,
@@ -129,7 +129,7 @@ quiet
 );
 
 /// Two processes that print twice, on kernels 1 and 2, and none on kernel 0.
-const PRINTS: &str = "version 2
+pub(crate) const PRINTS: &str = "version 2
 kernels 3
 process 0 on 1
 process 1 on 2

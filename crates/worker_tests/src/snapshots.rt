@@ -6,7 +6,7 @@ use std::alloc::Global;
 use std::test::Fail;
 
 /// A message that is asked for, but not taken yet.
-const SCRIPT: &str = "version 2
+pub(crate) const SCRIPT: &str = "version 2
 kernels 2
 process 0 on 0
 process 1 on 1
