@@ -140,13 +140,13 @@ impl World {
         hints.chain(told.filter(|(to, _, _)| *to == e.opposite()).map(|(_, at, hops)| (at, hops))).collect()
     }
 
-    /// Where an end is asked from, and not served yet.
-    fn unserved(&self, e: End, fields: &Moving) -> Vec<u8> {
+    /// Where an end is asked from, with the hops that were told, and not served yet.
+    fn unserved(&self, e: End, fields: &Moving) -> Vec<(u8, u32)> {
         let asked = self.packets().filter_map(|(_, _, _, packet)| match &packet.what {
-            What::Want(ask) | What::Unwant(ask) if ask.to == e && fields.served < ask.w => Some(ask.at),
+            What::Want(ask) | What::Unwant(ask) if ask.to == e && fields.served < ask.w => Some((ask.at, ask.hops)),
             _ => None,
         });
-        (fields.want > 0).then_some(fields.hint).into_iter().chain(asked).collect()
+        (fields.want > 0).then_some((fields.hint, fields.hint_hops)).into_iter().chain(asked).collect()
     }
 
     // ------------------------------------------------------------ the clauses
@@ -215,7 +215,7 @@ impl World {
 
     fn is_mark_right(&self, e: End, d: u8, mark: &Moving) -> [(&'static str, bool); 4] {
         let o = e.opposite();
-        let asked = || self.fields(o).iter().all(|fields| self.unserved(o, fields).into_iter().all(|j| j == d));
+        let asked = || self.fields(o).iter().all(|fields| self.unserved(o, fields).into_iter().all(|told| told == (d, mark.hops)));
         [
             ("dead", !mark.is_dead),
             ("gone, backs or parcels", self.is_told_from(e, d)),

@@ -33,7 +33,8 @@ IsReached w t e =
 
 -- ---- marks
 
--- the opposite of a mark does not know of the death, and is told from the mark. What an open opposite asks and sends goes there
+-- the opposite of a mark does not know of the death, and is told from the mark. What an open opposite sends goes there, and what it is asked
+-- for was asked from there, with the last hops of the end
 pub record IsMarkRight (w : Links) (t : EndId → End) (e : EndId) (d : ℕ) (mark : MovingPicture) : Type 0 where
   pub dead : mark.dead ≡ false
   pub noticed : (t e).noticed ≡ false
@@ -41,7 +42,7 @@ pub record IsMarkRight (w : Links) (t : EndId → End) (e : EndId) (d : ℕ) (ma
   pub backs : is_open (t (opposite e)) ≡ true → Each w (λ from to q. IsBackTo (opposite e) q → from ≡ d)
   pub parcels : is_open (t (opposite e)) ≡ true → Each w (λ from to q. IsParcelTo e q → to ≡ d)
   pub asked : (at : Stand) (m : MovingPicture) (n j h : ℕ) → is_open (t (opposite e)) ≡ true → HasFields w (opposite e) at m
-      → IsUnserved w (opposite e) m n j h → j ≡ d
+      → IsUnserved w (opposite e) m n j h → (j ≡ d) × (h ≡ mark.hops)
   -- and it is taken away: the opposite has seen the death, or will
   pub mourned : IsGoingTo w d (IsGoneSeen e)
       ⊎ (IsSought w t (opposite e) × IsOnTrack w (opposite e) mark.hint.1 (IsGoneFrom (opposite e) d))
