@@ -1,5 +1,5 @@
 -- What the parts of a call leave true of the table for the parts after them.
-use Rattle.std.proofs.Common.{◌≡◌, ℕ, ◌+◌, Bool, true, false, nat_eq, List, [], ◌∷◌, Contains, zero, suc, Option, Some, None, IsSome, true≢false, refl, sym, ap, subst, ◌∙◌, arith}
+use Rattle.std.proofs.Common.{◌≡◌, ℕ, ◌+◌, length, Bool, true, false, nat_eq, List, [], ◌∷◌, Contains, zero, suc, Option, Some, None, IsSome, true≢false, refl, sym, ap, subst, ◌∙◌, arith}
 use Rattle.charlotte_calls.specs.Causes.{first_of, send_causes}
 use Rattle.charlotte_calls.specs.Names.{opposite, other_side}
 use Rattle.charlotte_calls.specs.declared.calls.Call.TheVariants as call
@@ -15,7 +15,7 @@ use Rattle.end_table.proofs.EndEq.{end_eq-same}
 use Rattle.end_table.specs.Entries.{ended_entry}
 use Rattle.end_table.specs.Owned.{AreEndsOf, owned}
 use Rattle.end_table.specs.Place.{end_eq, put}
-use Rattle.end_table.specs.Table.{IsHere, IfHere, IsOfEnd}
+use Rattle.end_table.specs.Table.{IsHere, IfHere, IsOfEnd, TableView, entries}
 use Rattle.end_table.specs.declared.entry.Entry.{Entry}
 use Rattle.end_table.specs.declared.entry.Entry.TheVariants as entry
 use Rattle.end_table.specs.declared.entry.HereView.{HereView}
@@ -29,7 +29,7 @@ use Rattle.kernel_sound.specs.Sound.{IsSound}
 use Rattle.kernel_step.specs.Actions.{enclosed_of, end_each, ends, ends_idle, ends_idle_here, held, here, hold_each, tells_gone}
 use Rattle.kernel_step.specs.Calls.{encloses, ends_each, ends_here, starts_send, sees}
 use Rattle.kernel_step.specs.Enclosed.{AreEnclosed}
-use Rattle.kernel_step.specs.Progress.{Progress, AddsAtMost, HasRoom, keeps, progress}
+use Rattle.kernel_step.specs.Progress.{Progress, AddsAtMost, HasRoom, StaysWithin, keeps, progress}
 use Rattle.kernel_step.specs.Room.{and_ends, no_room, room_of_end}
 
 -- both ends of a link are two
@@ -157,6 +157,90 @@ module _ (k : ℕ) (x : EndId) (xs all : List EndId) (t0 t1 : EndId → Entry) (
 pub HasRoom-ends : (all xs : ℕ) (old new : Work) → all ≡ xs + 1 → HasRoom (and_ends all no_room) old → AddsAtMost room_of_end old new → HasRoom (and_ends xs no_room) new
 HasRoom-ends all xs old new more room adds =
     record { packets = omega arith; reports = omega arith; answers = omega arith; steps = omega arith }
+
+-- and once it ended, one more of them has
+pub within-more : (n : ℕ) (before amid after : TableView) (old mid new : Work) → StaysWithin (and_ends n no_room) before amid old mid → StaysWithin room_of_end amid after mid new
+    → StaysWithin (and_ends (n + 1) no_room) before after old new
+within-more n before amid after old mid new first next =
+    record {
+      kernel = next.kernel ∙ first.kernel;
+      added =
+          record {
+            packets = omega (arith, first.added.packets, next.added.packets);
+            reports = omega (arith, first.added.reports, next.added.reports);
+            answers = omega (arith, first.added.answers, next.added.answers);
+            steps = omega (arith, first.added.steps, next.added.steps);
+            packets_in_place = next.added.packets_in_place ∙ first.added.packets_in_place;
+            reports_in_place = next.added.reports_in_place ∙ first.added.reports_in_place;
+            answers_in_place = next.added.answers_in_place ∙ first.added.answers_in_place;
+            steps_in_place = next.added.steps_in_place ∙ first.added.steps_in_place;
+          };
+    }
+
+-- of the ends that a process owns these are left, and there is room to end each; the others ended
+pub record AreLeft (all left : List EndId) (before after : TableView) (old new : Work) : Type 0 where
+  pub over : ℕ
+  pub count : over + length left ≡ length all
+  pub ends : AreOfOne after.kernel (entries after) left
+  pub room : HasRoom (and_ends (length left) no_room) new
+  pub part : ends_each before.kernel left (progress (entries after) new) ≡ ends_each before.kernel all (progress (entries before) old)
+  pub within : StaysWithin (and_ends over no_room) before after old new
+
+-- none ended yet
+pub all-left : (all : List EndId) (table : TableView) (out : Work) → AreOfOne table.kernel (entries table) all → HasRoom (and_ends (length all) no_room) out → AreLeft all all table table out out
+all-left all table out ends room =
+    record {
+      over = 0;
+      count = omega arith;
+      ends = ends;
+      room = room;
+      part = refl;
+      within =
+          record {
+            kernel = refl;
+            added =
+                record {
+                  packets = omega arith;
+                  reports = omega arith;
+                  answers = omega arith;
+                  steps = omega arith;
+                  packets_in_place = refl;
+                  reports_in_place = refl;
+                  answers_in_place = refl;
+                  steps_in_place = refl;
+                };
+          };
+    }
+
+-- the first that is left ends
+pub one-fewer : (all left : List EndId) (x : EndId) (xs : List EndId) (before amid after : TableView) (old mid new : Work) → left ≡ x ∷ xs → AreLeft all left before amid old mid
+    → progress (entries after) new ≡ ends_here amid.kernel (here (entries amid x)) (progress (entries amid) mid) → StaysWithin room_of_end amid after mid new → AreLeft all xs before after old new
+one-fewer all left x xs before amid after old mid new first are ended within =
+    record {
+      over = are.over + 1;
+      count = omega (arith, are.count, one);
+      ends = subst (λ k. AreOfOne k (entries after) xs) (sym within.kernel) (AreOfOne-others _ _ _ _ _ _ _ _ first are.ends ended);
+      room = HasRoom-ends _ _ _ _ one are.room within.added;
+      part = ends_each-more before.kernel x xs left _ _ _ _ first (ended ∙ ap (λ k. ends_here k (here (entries amid x)) (progress (entries amid) mid)) are.within.kernel) ∙ are.part;
+      within = within-more are.over before amid after old mid new are.within within;
+    }
+  where
+    one : length left ≡ length xs + 1
+    one = let long : length left ≡ length (x ∷ xs) = ap length first in omega (arith, long)
+
+-- there is room to end the first that is left
+pub first-room : (left : List EndId) (x : EndId) (xs : List EndId) (out : Work) → left ≡ x ∷ xs → HasRoom (and_ends (length left) no_room) out → HasRoom room_of_end out
+first-room left x xs out first room =
+    let long : length left ≡ length (x ∷ xs) = ap length first in
+    record { packets = omega (arith, long, room.packets); reports = room.reports; answers = room.answers; steps = room.steps }
+
+-- where none is left, all ended
+module _ (all left : List EndId) (before after : TableView) (old new : Work) (none : left ≡ []) (are : AreLeft all left before after old new) where
+  pub none-left : progress (entries after) new ≡ ends_each before.kernel all (progress (entries before) old)
+  none-left = sym (ends_each-none before.kernel left _ none) ∙ are.part
+
+  pub all-within : StaysWithin (and_ends (length all) no_room) before after old new
+  all-within = let empty : length left ≡ 0 = ap length none in subst (λ n. StaysWithin (and_ends n no_room) before after old new) (omega (arith, are.count, empty)) are.within
 
 -- once the ends that it encloses are held by it
 module _ (p : Pid) (on : EndId) (xs slice : List EndId) (v : HereView) (old new : EndId → Entry) (out0 out1 : Work) (at : old on ≡ entry.Here v) (mine : Some v ≡ owned p (old on))

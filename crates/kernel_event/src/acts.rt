@@ -195,12 +195,10 @@ fn destroy_each(table: &mut Table, ends: &[EndId], out: &mut Work)
         ≡ ends_each table.old.kernel ends.now (progress (entries table.old) out.old) }
     ensures within { StaysWithin (and_ends (length ends.now) no_room) table.old table.new out.old out.new }
 {
-    match first_of(ends) {
-        None => {}
-        Some((first, others)) => {
-            destroy_here(table, first, out);
-            destroy_each(table, others, out);
-        }
+    let mut left = ends;
+    while let Some((first, others)) = first_of(left) {
+        destroy_here(table, first, out);
+        left = others;
     }
 }
 
