@@ -3,7 +3,7 @@ use Rattle.std.proofs.Common.{◌≡◌, ℕ, ◌+◌, ◌<◌, ◌≤◌, List,
 use Rattle.std.proofs.lemmas.List.{append_assoc, drop-append-le, length-append, take-append-le}
 use Rattle.std.proofs.lemmas.Bool.{cases_lt}
 use Rattle.charlotte_calls.specs.declared.names.EndId.{EndId}
-use Rattle.charlotte_packets.specs.Sent.{packets_of, wholes, AreBrief, IsListed, ListView}
+use Rattle.charlotte_packets.specs.Sent.{packets_of, wholes, AreBrief, IsListed, ListView, most_whole}
 use Rattle.charlotte_packets.specs.declared.brief.Brief.{Brief}
 use Rattle.charlotte_packets.specs.declared.brief.Brief.TheVariants as brief
 use Rattle.charlotte_packets.specs.declared.packet.Packet.{Packet}
@@ -87,14 +87,14 @@ none-briefs bs ps all none = sym (as-many bs ps all) ∙ ap length none
 -- ---- the list of an event's packets: the first ones, and those behind them
 
 module _ (whole : List (ℕ × Packet)) (room : ℕ) (behind : ListView) (fits : ℕ) (is : IsListed whole room behind fits) where
-  -- the first n packets, of 64, are those that lie whole
-  pub within-whole : (n : ℕ) → n ≤ 64 → n ≤ length (whole ++ behind.items) → n ≤ length whole
-  within-whole n few within = by (cases_lt (length whole) 64)
+  -- the first n packets, of so many, are those that lie whole
+  pub within-whole : (n : ℕ) → n ≤ most_whole → n ≤ length (whole ++ behind.items) → n ≤ length whole
+  within-whole n few within = by (cases_lt (length whole) most_whole)
     where
       long : length (whole ++ behind.items) ≡ length whole + length behind.items
       long = length-append whole behind.items
 
-      by : (length whole < 64) ⊎ (64 ≤ length whole) → n ≤ length whole
+      by : (length whole < most_whole) ⊎ (most_whole ≤ length whole) → n ≤ length whole
       by (inl less) = let none : length behind.items ≡ 0 = ap length (is.few less) in omega (arith, within, long, none)
       by (inr more) = omega (arith, few, more)
 

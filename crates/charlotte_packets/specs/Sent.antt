@@ -34,11 +34,15 @@ pub record AreBrief (bs : List Brief) (ps : List Packet) (briefs_room whole_room
   pub briefs : fits ≤ briefs_room
   pub whole : fits ≤ whole_room
 
--- others lie behind the first 64 alone, and there is room for so many, which is no more than a list holds
+-- so many packets of an event lie whole, at most
+abbrev pub most_whole : ℕ
+most_whole = 64
+
+-- others lie behind these alone, and there is room for so many, which is no more than a list holds
 pub record IsListed (whole : List (ℕ × Packet)) (whole_room : ℕ) (behind : ListView) (fits : ℕ) : Type 0 where
-  pub few : length whole < 64 → behind.items ≡ []
-  pub first : (n : ℕ) → n < 64 → n < fits → n < whole_room
-  pub others : fits ≤ 64 + behind.fits
+  pub few : length whole < most_whole → behind.items ≡ []
+  pub first : (n : ℕ) → n < most_whole → n < fits → n < whole_room
+  pub others : fits ≤ most_whole + behind.fits
   pub room : fits < 2 ^ 63
   pub within : length whole + length behind.items ≤ fits
 

@@ -34,6 +34,8 @@ impl Model for PacketList {
 }
 
 impl PacketList {
+    ghost use Rattle.charlotte_packets.specs.Sent.{most_whole};
+
     /// No packets, and no room. It takes no memory.
     pub fn new(alloc: Global) -> PacketList
         ensures { result.items ≡ [] }
@@ -92,7 +94,8 @@ impl PacketList {
     /// Takes the packets, and leaves none, without room, in their place.
     #[inline(always)]
     pub fn take(&mut self) -> PacketList
-        ensures { result ≡ self.old }
+        ensures same { result ≡ self.old }
+        ensures left { self.new.items ≡ [] }
     {
         let alloc = *self.whole.allocator();
         mem::replace(self, PacketList::new(alloc))
@@ -101,7 +104,7 @@ impl PacketList {
     /// How many packets there are, where they are few.
     #[inline(always)]
     pub fn len(&self) -> usize
-        requires { length self.now.items ≤ 64 }
+        requires { length self.now.items ≤ most_whole }
         ensures { result ≡ length self.now.items }
     {
         self.whole.len()
@@ -125,7 +128,7 @@ impl PacketList {
     pub fn put_behind(&mut self, first: usize, upto: usize)
         requires first { first ≤ upto }
         requires upto { upto ≤ length self.old.items }
-        requires few { upto ≤ 64 }
+        requires few { upto ≤ most_whole }
         ensures length { length self.new.items ≡ length self.old.items }
         ensures items { self.new.items ≡ (drop first (take upto self.old.items) ++ take first (take upto self.old.items)) ++ drop upto self.old.items }
         ensures fits { self.new.fits ≡ self.old.fits }
@@ -149,12 +152,13 @@ impl PacketList {
 
     /// The first packets, lent: all, where they are few.
     pub fn lent(&self) -> &[(u8, Packet)]
-        ensures { length self.now.items ≤ 64 → result.now ≡ self.now.items }
+        ensures { length self.now.items ≤ most_whole → result.now ≡ self.now.items }
     {
         self.whole.as_slice()
     }
 }
 
+/// Of the packets before `upto`, the first ones go behind the others.
 fn rotate_front(packets: &mut [(u8, Packet)], first: usize, upto: usize)
     requires first { first ≤ upto }
     requires upto { upto ≤ length packets.old }

@@ -8,7 +8,6 @@
 //! another byte separates. Each finds a value exactly where the bytes spell it, and takes no memory. A number or a text that is
 //! too large is told apart from bytes of another form.
 //! `is_plain`, `hex_digit` and `digit_value` tell how one byte of a text is spelled.
-//! A `Listing` is a text of items with a mark between each two.
 //! A call takes some 400 bytes, so `read_call_into` puts it into a place that the caller has.
 //!
 //! # What is proved
@@ -20,7 +19,6 @@
 mod call;
 mod fault;
 mod law;
-mod listing;
 mod name;
 mod number;
 mod part;
@@ -29,7 +27,6 @@ mod text;
 pub use call::{push_call, push_way, read_call, read_call_into, read_way};
 pub use fault::Fault;
 pub use law::{one_call, one_end, one_string_of_bytes};
-pub use listing::Listing;
 pub use name::{most_ends, push_end, push_ends, push_process, read_end, read_ends, read_process};
 pub use number::{Number, push_number, read_below, read_number};
 pub use part::{cut, end_of_line, end_of_parts, is_word, next_part, next_word};

@@ -86,6 +86,10 @@ takings_from k kernel from = listed_line (next_taking k from kernel)
 abbrev pub takings_at : Kept → ℕ → List (List ℕ)
 takings_at k kernel = flat_map (takings_from k kernel) (range_with_len 0 k.setting.kernels)
 
+-- a setting has at most so many processes
+abbrev pub most_processes : ℕ
+most_processes = 64
+
 -- a call of each process that runs, and the first packet from each kernel to each
 unfoldable pub next_entries : Kept → List (List ℕ)
-next_entries k = flat_map (calls_of k) (range_with_len 0 64) ++ flat_map (takings_at k) (range_with_len 0 k.setting.kernels)
+next_entries k = flat_map (calls_of k) (range_with_len 0 most_processes) ++ flat_map (takings_at k) (range_with_len 0 k.setting.kernels)

@@ -14,7 +14,7 @@ returns-clause-part c = λ s.
     let first : Effect = record { stamp = c.args.event.now.work.stamp; packets = c.take.result; answered = c.take_list.result; steps = c.take_list-2.result } in
     let begun : Kernel = record s { stamp = c.args.event.now.work.stamp } in
     closes-by s (entries c.args.table.now) c.args.processes.now c.args.event.now.work first _ _
-    (ap (λ l. l.items) c.take.ensures) (ap (λ l. l.items) c.take_list.ensures ∙ c.requires.room.nobody) (ap (λ l. l.items) c.take_list-2.ensures)
+    (ap (λ l. l.items) c.take.ensures.same) (ap (λ l. l.items) c.take_list.ensures ∙ c.requires.room.nobody) (ap (λ l. l.items) c.take_list-2.ensures)
     (c.answer_each.ensures.part begun (entries c.args.table.now))
     (c.join_each.ensures.part begun)
 

@@ -1,13 +1,13 @@
 use Rattle.std.proofs.Common.{◌≡◌, ◌<◌, ◌+◌, ◌++◌, length, vec_capacity, vec_len, sym, subst, arith, rules}
 use Rattle.std.proofs.lemmas.List.{length-append}
-use Rattle.charlotte_packets.specs.Sent.{ListView}
+use Rattle.charlotte_packets.specs.Sent.{ListView, most_whole}
 use Rattle.charlotte_packets.proofs.Sent.{one-in-front}
 use Rattle.charlotte_packets.proofs.listed.PacketList.push_reserved.Goals as goal
 
 pub push_reserved-requires : goal.push_reserved-requires
 push_reserved-requires c =
     let len : vec_len c.self.inside.whole ≡ length c.self.inside.whole.items = search rules in
-    let few : length c.self.inside.whole.items < 64 = search rules in
+    let few : length c.self.inside.whole.items < most_whole = search rules in
     let less : length (c.self.inside.whole.items ++ c.self.inside.behind.items) < c.self.inside.fits = subst (λ (v : ListView). length v.items < v.fits) (sym c.self.view_is) c.requires in
     let long : length (c.self.inside.whole.items ++ c.self.inside.behind.items) ≡ length c.self.inside.whole.items + length c.self.inside.behind.items =
     length-append c.self.inside.whole.items c.self.inside.behind.items in
@@ -16,7 +16,7 @@ push_reserved-requires c =
 
 pub invariant_of-self : goal.invariant_of-self
 invariant_of-self c =
-    let few : length c.self.inside.whole.items < 64 = search rules in
+    let few : length c.self.inside.whole.items < most_whole = search rules in
     let less : length (c.self.inside.whole.items ++ c.self.inside.behind.items) < c.self.inside.fits = subst (λ (v : ListView). length v.items < v.fits) (sym c.self.view_is) c.requires in
     record {
       few = λ _. c.self.invariant.few few;
