@@ -36,7 +36,7 @@ impl<M: Drop> Kept<M> {
         }
     }
 
-    /// Makes room for this many ends. Where nothing is kept and there is room for fewer than `few`, the room is made anew.
+    /// Makes room for this many ends, and where nothing is kept for `few` at least.
     #[inline(always)]
     pub(crate) fn reserve(&mut self, most: usize, few: usize) -> Result<(), NoMemory>
         ensures room { OnOk result (most ≤ self.new.most) }
@@ -49,8 +49,8 @@ impl<M: Drop> Kept<M> {
         self.grow(most, few)
     }
 
-    /// The same where there is less room. A small block is copied whole when it grows, also where nothing is in it. A large one
-    /// moves without a copy, and would make others costlier if it were let go for a larger one.
+    /// The same where there is less room. A small block is copied whole when it grows, also where nothing is in it, and a large one
+    /// grows without a copy, but one that is let go costs memory later. So with `few` the first is large already.
     #[inline(never)]
     fn grow(&mut self, most: usize, few: usize) -> Result<(), NoMemory>
         requires { self.old.most < most }
@@ -60,7 +60,7 @@ impl<M: Drop> Kept<M> {
     {
         if self.kept.is_empty() {
             if self.kept.capacity() < few {
-                self.kept = IndexMap::with_capacity(*self.kept.allocator(), most)?;
+                self.kept = IndexMap::with_capacity(*self.kept.allocator(), most.max(few))?;
                 return Ok(());
             }
         }

@@ -12,10 +12,10 @@ use charlotte_calls::{EndId, NoMemory};
 use std::alloc::Global;
 use std::marker::Model;
 
-/// So many long messages, and so many brief ones, take some three megabytes.
-const FEW_LONG: usize = 8192;
+/// A block of so many long messages is large, and one of so many brief ones: more than 128 KiB, of which is touched only what is used.
+const FEW_LONG: usize = 1024;
 
-const FEW_BRIEF: usize = 32768;
+const FEW_BRIEF: usize = 4096;
 
 /// The messages of sends that wait, each with the end that sends it: brief ones apart, since a place for one has the room of the
 /// longest. Where both have a message of an end, the long one is the newer. Where a send does not wait any more, its message

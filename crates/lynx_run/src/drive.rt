@@ -59,7 +59,8 @@ impl FileCommand for DriveCommand {
     }
 }
 
-// The transcript of the script that these bytes are. They are let go before it is performed.
+// The transcript of the script that these bytes are. They are let go once it was performed: the C library keeps later blocks of that size among
+// the small ones, where each that grows is copied.
 #[tactic(auto, using(crate::proofs::Lawful::performance_is_lawful))]
 fn perform_script(alloc: Global, bytes: Vec<u8>, script: Script) -> Result<Transcript, NoMemory>
     requires within { length bytes.items ≤ most_bytes }
@@ -68,13 +69,13 @@ fn perform_script(alloc: Global, bytes: Vec<u8>, script: Script) -> Result<Trans
     requires few { 7 * length script.lines ≤ length bytes.items + 1 }
     ensures { IfOk result (IsDriven bytes.items) }
 {
-    drop(bytes);
     let Script { setting, lines } = script;
     let Performance {
         merged,
         notes,
         last,
     } = perform(alloc, &setting, lines)?;
+    drop(bytes);
     let lines = TranscriptLines::of(setting, merged, notes, last);
     Ok(Transcript { lines })
 }

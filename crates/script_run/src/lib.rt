@@ -12,5 +12,6 @@
 mod lines;
 mod performance;
 mod recorded;
+mod undone;
 
 pub use performance::{Performance, perform};

@@ -10,10 +10,10 @@ ghost use Rattle.script_run.specs.Performing.{IsLast, IsPerformance};
 
 use crate::lines::do_line;
 use crate::recorded::Recorded;
+use crate::undone::Undone;
 use charlotte_calls::{Items, NoMemory, Setting};
 use lynx_plan::ScriptLine;
 use std::alloc::Global;
-use std::collections::VecDeque;
 use transcript_lines::{Last, ScriptNote};
 use written_journal::Merged;
 
@@ -43,7 +43,7 @@ pub fn perform(
     ensures told { IfOk result (λ p. AreOfTranscript setting.now p.merged p.notes p.last) }
 {
     let mut run = Recorded::start(alloc, setting)?;
-    let notes = do_lines(alloc, setting, &mut run, VecDeque::from(lines.into_vec()))?;
+    let notes = do_lines(alloc, setting, &mut run, Undone::of(lines))?;
     let last = last_of(&run);
     tell_notes(&notes);
     let merged = Merged::of_journals(alloc, run.into_journals())?;
@@ -59,16 +59,16 @@ fn do_lines(
     alloc: Global,
     setting: &Setting,
     run: &mut Recorded,
-    mut lines: VecDeque<ScriptLine>,
+    mut lines: Undone,
 ) -> Result<Vec<ScriptNote>, NoMemory>
     requires valid { IsValid setting.now }
     requires ready { AreReady setting.now 0 run.old }
-    requires calls { All (λ l. FitsWhat setting.now l.what) lines.items }
-    requires few { length lines.items ≤ 200000 }
-    ensures { IfOk result (λ notes. AreLinesDone setting.now lines.items notes.items run.old run.new) }
+    requires calls { All (λ l. FitsWhat setting.now l.what) lines }
+    requires few { length lines ≤ 200000 }
+    ensures { IfOk result (λ notes. AreLinesDone setting.now lines notes.items run.old run.new) }
 {
     let mut notes = Vec::new(alloc);
-    while let Some(line) = lines.pop_front() {
+    while let Some(line) = lines.next() {
         let note = do_line(setting, run, line)?;
         push_note(&mut notes, note)?;
     }

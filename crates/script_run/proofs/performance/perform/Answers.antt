@@ -20,9 +20,9 @@ performed c =
     let a : Recorded = c.in_ok-run.run' in
     let b : Recorded = c.do_lines.new.run in
     let done : AreLinesDone s c.args.lines c.in_ok-notes.notes.items a b =
-    subst (λ (ls : List ScriptLine). AreLinesDone s ls c.in_ok-notes.notes.items a b) (c.from.ensures.0 ∙ c.into_vec.ensures) c.in_ok-notes.ensures in
+    subst (λ (ls : List ScriptLine). AreLinesDone s ls c.in_ok-notes.notes.items a b) c.of.ensures c.in_ok-notes.ensures in
     let merge : IsMerge (map entries_of b.journals.items) c.in_ok-merged.merged = subst (λ (js : List (List Entry)). IsMerge js c.in_ok-merged.merged) c.into_journals.ensures c.in_ok-merged.ensures.merge in
-    subst (λ (notes : List ScriptNote). IsPerformance s c.args.lines c.in_ok-merged.merged notes c.last_of-last.result) (sym c.of.ensures)
+    subst (λ (notes : List ScriptNote). IsPerformance s c.args.lines c.in_ok-merged.merged notes c.last_of-last.result) (sym c.of-2.ensures)
     (performance s c.args.lines c.in_ok-merged.merged c.in_ok-notes.notes.items c.last_of-last.result a b c.in_ok-run.ensures.ready c.in_ok-run.ensures.start c.in_ok-run.ensures.entries done merge (c.last_of-last.ensures s) c.requires.few)
 
 pub returns-clause-performed : goal.returns-clause-performed
@@ -37,5 +37,5 @@ returns-clause-told c =
     let count : length b.journals.items ≡ s.kernels = is.journals in
     let few : s.kernels ≤ 8 = c.requires.valid.limits.kernels in
     let entries : All IsPlacedInRange c.in_ok-merged.merged = merged_in_range b.journals.items c.in_ok-merged.merged is.in_range (omega (arith, count, few)) merge in
-    let note_lines : All IsNoteInRange c.of.result = subst (All IsNoteInRange) (c.deref.ensures.value ∙ sym c.of.ensures) c.tell_notes.ensures in
-    performance-told s c.args.lines c.in_ok-merged.merged c.of.result c.last_of-last.result c.requires.valid c.requires.rising entries note_lines (performed c)
+    let note_lines : All IsNoteInRange c.of-2.result = subst (All IsNoteInRange) (c.deref.ensures.value ∙ sym c.of-2.ensures) c.tell_notes.ensures in
+    performance-told s c.args.lines c.in_ok-merged.merged c.of-2.result c.last_of-last.result c.requires.valid c.requires.rising entries note_lines (performed c)
