@@ -4,8 +4,8 @@ use Rattle.std.proofs.lemmas.List.{get_or_default, length-map}
 use Rattle.std.proofs.Math.Nat.{ne_of_lt}
 use mathlib.Core.List.{IsPrefix, map-map}
 use Rattle.kernel_net.specs.Letters.{MayBePut}
-use Rattle.kernel_net.specs.Rings.{Ring, Outlet, Inlet, Puts, Gets, Looks, capacity_of}
-use Rattle.kernel_net.specs.Ports.{kernels_of, PortView, place_of, put_to, got_from, places_to, known_from, room_to, HasPut, HasGot, HasLooked, LooksOneWay, AreAllThere, IsJoined, IsPlace, GetsFirst}
+use Rattle.kernel_net.specs.Rings.{Ring, Outlet, Inlet, Puts, Gets, Learns, Looks, capacity_of}
+use Rattle.kernel_net.specs.Ports.{kernels_of, PortView, place_of, put_to, got_from, places_to, known_from, room_to, HasPut, HasFound, GetsOne, HasGot, HasLooked, LooksOneWay, AreAllThere, IsJoined, IsPlace, FindsFirst}
 use Rattle.kernel_net.specs.declared.letter.Letter.{Letter}
 use Rattle.kernel_net.proofs.Lists.{read-at, set-at, set-others, set-kept, prefix-trans}
 
@@ -60,18 +60,41 @@ module _ (p : PortView) (from : ℕ) (old new : Inlet) (below : from < length p.
         others = λ q other. (refl, set-others (λ i. i.known) p.into from old new below is q [] other);
       }
 
-  pub has-got : (letter : Letter) → Gets letter old new → length p.out ≡ length p.into → ((q : ℕ) (d : Inlet) → q < from → (get_or p.into q d).known ≡ []) → HasGot from letter p (with_into p from new)
-  has-got letter gets same before =
+  pub gets-one : (letter : Letter) → Gets letter old new → GetsOne from letter p (with_into p from new)
+  gets-one letter gets =
       record {
-        kernel = omega (arith, same, below, length-map p.out (λ o. o.ring));
         got = set-at (λ i. i.got) p.into from old new below is [] ∙ gets.got ∙ ap (λ xs. xs ++ letter ∷ []) (sym (read-at (λ i. i.got) p.into from old new below is []));
         allowed = subst (λ l. MayBePut l letter) (sym (read-at (λ i. i.got) p.into from old new below is [])) gets.allowed;
         known = subst (λ l. IsPrefix l (letter ∷ known_from (with_into p from new) from)) (sym known-old) (subst (λ l. IsPrefix old.known (letter ∷ l)) (sym known-new) gets.known);
-        before = λ q less. set-others (λ i. i.known) p.into from old new below is q [] (ne_of_lt less)
-            ∙ read-at (λ i. i.known) p.into q (get_or p.into q old) old (omega (arith, less, below)) (get_or_default p.into q old _ (omega (arith, less, below))) [] ∙ before q old less;
         others = λ q other. (set-others (λ i. i.got) p.into from old new below is q [] other, set-others (λ i. i.known) p.into from old new below is q [] other);
         out = refl;
       }
+
+  pub has-found : Learns old new → 0 < length new.known → length p.out ≡ length p.into → ((q : ℕ) (d : Inlet) → q < from → (get_or p.into q d).known ≡ []) → HasFound from p (with_into p from new)
+  has-found learns some same before =
+      record {
+        kernel = omega (arith, same, below, length-map p.out (λ o. o.ring));
+        some = subst (λ (l : List Letter). 0 < length l) (sym known-new) some;
+        known = subst (λ l. IsPrefix l (known_from (with_into p from new) from)) (sym known-old) (subst (λ l. IsPrefix old.known l) (sym known-new) learns.known);
+        before = λ q less. set-others (λ i. i.known) p.into from old new below is q [] (ne_of_lt less)
+            ∙ read-at (λ i. i.known) p.into q (get_or p.into q old) old (omega (arith, less, below)) (get_or_default p.into q old _ (omega (arith, less, below))) [] ∙ before q old less;
+        others = λ q other. set-others (λ i. i.known) p.into from old new below is q [] other;
+        got = λ q. ap (λ (ls : List (List Letter)). get_or ls q []) (set-kept (λ i. i.got) p.into from old new below is learns.got);
+        out = refl;
+      }
+
+-- the first letter of the kernel that was found is the first of the first
+pub found-got : (from : ℕ) (letter : Letter) (old mid new : PortView) → HasFound from old mid → GetsOne from letter mid new → HasGot from letter old new
+found-got from letter old mid new found gets =
+    record {
+      kernel = found.kernel;
+      got = gets.got ∙ ap (λ xs. xs ++ letter ∷ []) (found.got from);
+      allowed = subst (λ xs. MayBePut xs letter) (found.got from) gets.allowed;
+      known = prefix-trans _ _ _ found.known gets.known;
+      before = λ q less. (gets.others q (ne_of_lt less)).1 ∙ found.before q less;
+      others = λ q other. ((gets.others q other).0 ∙ found.got q, (gets.others q other).1 ∙ found.others q other);
+      out = gets.out ∙ found.out;
+    }
 
 pub looked-trans : (at : ℕ) (p q r : PortView) → HasLooked at p q → HasLooked at q r → HasLooked at p r
 looked-trans at p q r a b =
@@ -135,26 +158,29 @@ module _ (p q : PortView) (to from : ℕ) (same-to : to ≡ q.kernel) (same-from
         );
       }
 
--- ---- a letter got from the first ring that has one
+-- ---- the first ring in which a letter is known
 
-module _ (p : PortView) (from : ℕ) (letter : Letter) (into : List Inlet) (first : GetsFirst from letter p.into into) (is : IsPlace (place_of p)) where
-  below-first : from < length p.into
-  below-first = first.kernel
-
+module _ (p : PortView) (from : ℕ) (into : List Inlet) (first : FindsFirst from p.into into) where
   abbrev was : Inlet
-  was = get_or p.into from first.got.0
+  was = get_or p.into from first.learned.0
 
   is-was : was ≡ get_or p.into from was
-  is-was = get_or_default p.into from first.got.0 was below-first
+  is-was = get_or_default p.into from first.learned.0 was first.kernel
 
   pub place-first : place_of (record { kernel = p.kernel; out = p.out; into = into }) ≡ place_of p
-  place-first = ap (λ (is : List Inlet). place_of (record { kernel = p.kernel; out = p.out; into = is })) first.got.2
-      ∙ place-into p from was first.got.0 below-first is-was first.got.1.ring
+  place-first = ap (λ (is : List Inlet). place_of (record { kernel = p.kernel; out = p.out; into = is })) first.learned.3
+      ∙ place-into p from was first.learned.0 first.kernel is-was first.learned.1.ring
 
-  pub got-first : HasGot from letter p (record { kernel = p.kernel; out = p.out; into = into })
-  got-first = subst (λ (is : List Inlet). HasGot from letter p (record { kernel = p.kernel; out = p.out; into = is })) (sym first.got.2)
-      (has-got p from was first.got.0 below-first is-was letter first.got.1
+  pub found-first : IsPlace (place_of p) → HasFound from p (record { kernel = p.kernel; out = p.out; into = into })
+  found-first is = subst (λ (is : List Inlet). HasFound from p (record { kernel = p.kernel; out = p.out; into = is })) (sym first.learned.3)
+      (has-found p from was first.learned.0 first.kernel is-was first.learned.1 first.learned.2
       (omega (arith, is.same, length-map p.out (λ o. o.ring), length-map p.into (λ i. i.ring))) first.before)
+
+-- a kernel of which a letter is known has a ring
+pub known-below : (is : List Inlet) (from : ℕ) → 0 < length (get_or (map (λ i. i.known) is) from []) → from < length is
+known-below [] from some = absurd (omega (arith, some))
+known-below (i ∷ is) zero some = omega arith
+known-below (i ∷ is) (suc from) some = let less : from < length is = known-below is from some in omega (arith, less)
 
 pub known-none : (is : List Inlet) → ((q : ℕ) (d : Inlet) → q < length is → (get_or is q d).known ≡ []) → (q : ℕ) → get_or (map (λ i. i.known) is) q [] ≡ []
 known-none [] none q = refl
@@ -162,6 +188,9 @@ known-none (i ∷ is) none zero = none 0 i (omega arith)
 known-none (i ∷ is) none (suc q) = known-none is (λ k d less. none (suc k) d (omega (arith, less))) q
 
 -- ---- a view for the port
+
+pub below-known : (p v : PortView) (from at : ℕ) → p ≡ v → at ≡ from → 0 < length (known_from v from) → at < length p.into
+below-known p v from at is same some = subst (λ k. k < length p.into) (sym same) (known-below p.into from (subst (λ (w : PortView). 0 < length (known_from w from)) (sym is) some))
 
 pub joined-views : (p p' q q' : PortView) → p ≡ p' → q ≡ q' → IsJoined (place_of p') (place_of q') → IsJoined (place_of p) (place_of q)
 joined-views p p' q q' a b is = subst (λ v. IsJoined (place_of v) (place_of q)) (sym a) (subst (λ v. IsJoined (place_of p') (place_of v)) (sym b) is)

@@ -1,7 +1,7 @@
 -- Ports, and the net that they make together.
 use Rattle.std.specs.Prelude.{◌≡◌, ◌≢◌, ◌+◌, ◌<◌, ◌≤◌, ℕ, List, [], ◌∷◌, ◌++◌, All, length, map, set, slice_index_or}
 use mathlib.Core.List.{IsPrefix}
-use Rattle.kernel_net.specs.Rings.{Ring, Outlet, Inlet, Gets, Learns, capacity_of}
+use Rattle.kernel_net.specs.Rings.{Ring, Outlet, Inlet, Learns, capacity_of}
 use Rattle.kernel_net.specs.declared.letter.Letter.{Letter}
 use Rattle.kernel_net.specs.Letters.{MayBePut}
 
@@ -104,6 +104,25 @@ pub record HasGot (from : ℕ) (letter : Letter) (old new : PortView) : Type 0 w
   pub others : (q : ℕ) → q ≢ from → (got_from new q ≡ got_from old q) × (known_from new q ≡ known_from old q)
   pub out : new.out ≡ old.out
 
+-- The first kernel was found of which a letter is known, by their numbers. More letters of it may be known than were, and else nothing
+-- changed
+pub record HasFound (from : ℕ) (old new : PortView) : Type 0 where
+  pub kernel : from < kernels_of (place_of old)
+  pub some : 0 < length (known_from new from)
+  pub known : IsPrefix (known_from old from) (known_from new from)
+  pub before : (q : ℕ) → q < from → known_from new q ≡ []
+  pub others : (q : ℕ) → q ≢ from → known_from new q ≡ known_from old q
+  pub got : (q : ℕ) → got_from new q ≡ got_from old q
+  pub out : new.out ≡ old.out
+
+-- The first letter of a kernel that is known was got, one that might be put behind those got before, and else nothing changed
+pub record GetsOne (from : ℕ) (letter : Letter) (old new : PortView) : Type 0 where
+  pub got : got_from new from ≡ got_from old from ++ letter ∷ []
+  pub allowed : MayBePut (got_from old from) letter
+  pub known : IsPrefix (known_from old from) (letter ∷ known_from new from)
+  pub others : (q : ℕ) → q ≢ from → (got_from new q ≡ got_from old q) × (known_from new q ≡ known_from old q)
+  pub out : new.out ≡ old.out
+
 -- the port learned of its rings to and from one kernel, and else nothing changed
 pub record HasLooked (at : ℕ) (old new : PortView) : Type 0 where
   pub put : put_to new ≡ put_to old
@@ -118,13 +137,7 @@ pub record AreAllThere (putter getter : PortView) : Type 0 where
   pub there : got_from getter putter.kernel ++ there_of putter getter ≡ put_to putter getter.kernel
   pub room : room_to (place_of putter) getter.kernel ≤ places_to putter getter.kernel + length (there_of putter getter)
 
--- ---- steps of a get and of a meeting, which private clauses alone cite
-
--- a letter was got from the first ring in which one is known
-pub record GetsFirst (from : ℕ) (letter : Letter) (old new : List Inlet) : Type 0 where
-  pub kernel : from < length old
-  pub got : (i : Inlet) × Gets letter (slice_index_or old from i) i × (new ≡ set old from i)
-  pub before : (q : ℕ) (d : Inlet) → q < from → (slice_index_or old q d).known ≡ []
+-- ---- steps of a search and of a meeting, which private clauses alone cite
 
 -- a letter is known in this ring, of which more was learned, and none in those before it
 pub record FindsFirst (from : ℕ) (old new : List Inlet) : Type 0 where

@@ -1,7 +1,7 @@
 ghost use Rattle.std.specs.Prelude.{◌≡◌, ◌+◌, ◌<◌, ◌≤◌, ℕ, [], IfSome, IfNone, IsOk, IsSome, OnOk, IfErr, length, slice_index_or};
 ghost use Rattle.kernel_net.specs.Letters.{MayBePut};
 ghost use Rattle.kernel_net.specs.Rings.{Inlet};
-ghost use Rattle.kernel_net.specs.Ports.{place_of, kernels_of, HasPut, HasGot, HasLooked, LooksOneWay, IsJoined, AreOfOneNet, AreAllThere, FindsFirst, GetsFirst, put_to, there_of, places_to, known_from};
+ghost use Rattle.kernel_net.specs.Ports.{place_of, kernels_of, HasPut, HasFound, GetsOne, HasGot, HasLooked, LooksOneWay, IsJoined, AreOfOneNet, AreAllThere, FindsFirst, put_to, there_of, places_to, known_from};
 
 use crate::Letter;
 use crate::ring::{Getter, Putter};
@@ -48,6 +48,7 @@ impl Port {
 
     /// Puts a letter to a kernel: a packet whose stamp is below the greatest `u64`, or the first marker to that kernel. The letter comes
     /// back exactly where no free place of the ring to it is known.
+    #[inline(always)]
     pub fn put(&mut self, to: u8, letter: Letter) -> Result<(), Letter>
         requires kernel { to < kernels_of (place_of self.old) }
         requires letter { MayBePut (put_to self.old to) letter }
@@ -60,6 +61,30 @@ impl Port {
         Ok(())
     }
 
+    /// The first kernel, by their numbers, of which a letter is known; `None` exactly where no letter is known in any ring to this port.
+    #[inline(always)]
+    pub fn first(&mut self) -> Option<u8>
+        ensures place { place_of self.new ≡ place_of self.old }
+        ensures some { IfSome result (λ from. HasFound from self.old self.new) }
+        ensures none { IfNone result ((self.new ≡ self.old) × ((from : ℕ) → known_from self.new from ≡ [])) }
+        ensures succeeds { (from : ℕ) → 0 < length (known_from self.old from) → IsSome result }
+    {
+        let Some(from) = first_known(&mut self.into) else {
+            return None;
+        };
+        Some(from)
+    }
+
+    /// Gets the first letter of a kernel of which one is known.
+    #[inline(always)]
+    pub fn get_from(&mut self, from: u8) -> Letter
+        requires { 0 < length (known_from self.old from) }
+        ensures place { place_of self.new ≡ place_of self.old }
+        ensures gets { GetsOne from result self.old self.new }
+    {
+        self.into[usize::from(from)].get_known()
+    }
+
     /// Gets the first letter of the first kernel, by their numbers, of which one is known, with that kernel's number; `None` exactly
     /// where no letter is known in any ring to this port.
     pub fn get(&mut self) -> Option<(u8, Letter)>
@@ -68,10 +93,10 @@ impl Port {
         ensures none { IfNone result ((self.new ≡ self.old) × ((from : ℕ) → known_from self.new from ≡ [])) }
         ensures succeeds { (from : ℕ) → 0 < length (known_from self.old from) → IsSome result }
     {
-        let Some((from, letter)) = get_first(&mut self.into) else {
+        let Some(from) = self.first() else {
             return None;
         };
-        Some((from, letter))
+        Some((from, self.get_from(from)))
     }
 
     /// Brings both ends of the ring from this port to itself together: how many letters are there.
@@ -86,19 +111,8 @@ impl Port {
     }
 }
 
-/// Gets from the first of these rings in which a letter is known.
-fn get_first(into: &mut Vec<Getter>) -> Option<(u8, Letter)>
-    requires { length into.old.items ≤ 256 }
-    ensures some { IfSome result (λ r. GetsFirst r.0 r.1 into.old.items into.new.items) }
-    ensures none { IfNone result ((into.new.items ≡ into.old.items) × ((from : ℕ) (d : Inlet) → from < length into.new.items → (slice_index_or into.new.items from d).known ≡ [])) }
-{
-    let Some(from) = first_known(into) else {
-        return None;
-    };
-    Some((from, into[usize::from(from)].get_known()))
-}
-
 /// The first of these rings in which a letter is known.
+#[inline(always)]
 fn first_known(into: &mut Vec<Getter>) -> Option<u8>
     requires { length into.old.items ≤ 256 }
     ensures some { IfSome result (λ from. FindsFirst from into.old.items into.new.items) }

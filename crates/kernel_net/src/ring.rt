@@ -54,6 +54,7 @@ pub(crate) fn new_ring(alloc: Global, capacity: u16) -> Result<(Putter, Getter),
 
 impl Putter {
     /// Puts a letter, which comes back exactly where no free place is known. Where none is, it first learns what the other end got.
+    #[inline(always)]
     pub(crate) fn put(&mut self, letter: Letter) -> Result<(), Letter>
         requires { MayBePut self.old.put letter }
         ensures ok { OnOk result (Puts letter self.old self.new) }
@@ -68,6 +69,7 @@ impl Putter {
 
 impl Getter {
     /// Whether no letter is known. Where none is, it first learns what the other end put.
+    #[inline(always)]
     pub(crate) fn is_empty(&mut self) -> bool
         ensures known { IsTrue result ↔ (self.new.known ≡ []) }
         ensures learns { Learns self.old self.new }
@@ -76,6 +78,7 @@ impl Getter {
     }
 
     /// Gets the first letter, where one is known.
+    #[inline(always)]
     pub(crate) fn get_known(&mut self) -> Letter
         requires { 0 < length self.old.known }
         ensures { Gets result self.old self.new }

@@ -37,6 +37,7 @@ impl Outbox {
     }
 
     /// The packets of an event go out, where none is unsent.
+    #[inline(always)]
     pub fn send(&mut self, packets: PacketList)
         ensures unsent { self.new.unsent.items ≡ packets.items }
         ensures waiting { self.new.waiting ≡ self.old.waiting }
@@ -46,6 +47,7 @@ impl Outbox {
     }
 
     /// The list of the unsent packets, of which there are none, for the next event to fill.
+    #[inline(always)]
     pub fn emptied(&mut self) -> PacketList
         ensures unsent { self.new.unsent.items ≡ [] }
         ensures waiting { self.new.waiting ≡ self.old.waiting }
@@ -56,6 +58,7 @@ impl Outbox {
     }
 
     /// Puts letters, to each kernel in order, while they are accepted. Whether one was put. No packet is unsent afterwards.
+    #[inline(always)]
     pub fn put(&mut self, port: &mut Port) -> Result<bool, NoMemory>
         requires lists { length self.old.waiting.items ≤ kernels_of (place_of port.old) }
         requires within { GoWithin (kernels_of (place_of port.old)) self.old.unsent.items }
@@ -97,6 +100,7 @@ impl Outbox {
     }
 
     /// Puts each unsent packet, or lets it wait. Whether one was put.
+    #[inline(always)]
     fn put_unsent(&mut self, port: &mut Port, kernels: u8) -> Result<bool, NoMemory>
         requires kernels { kernels ≡ kernels_of (place_of port.old) }
         requires lists { length self.old.waiting.items ≤ kernels }
@@ -120,6 +124,7 @@ impl Outbox {
     }
 
     /// Puts a letter where none waits and it is accepted, and else lets it wait. Whether it was put.
+    #[inline(always)]
     fn put_one(
         &mut self,
         port: &mut Port,
@@ -163,6 +168,7 @@ impl Outbox {
     }
 
     /// Whether no letter is left to be put.
+    #[inline(always)]
     pub fn is_empty(&self) -> bool
         ensures { IsTrue result ↔ ((to : ℕ) → outbox_to self.now to ≡ []) }
     {
@@ -170,6 +176,7 @@ impl Outbox {
     }
 
     /// Whether no letter waits.
+    #[inline(always)]
     fn none_waits(&self) -> bool
         ensures { IsTrue result ↔ All (λ list. list.items ≡ []) self.now.waiting.items }
     {
@@ -177,6 +184,7 @@ impl Outbox {
     }
 
     /// Whether a letter to a kernel waits.
+    #[inline(always)]
     fn waits(&self, to: u8) -> bool
         ensures { IsTrue result ↔ (0 < length (waiting_to self.now to)) }
     {
@@ -277,6 +285,7 @@ fn put_first(list: &mut VecDeque<Letter>, to: u8, port: &mut Port) -> bool
 }
 
 /// The bit of a kernel to which a letter was put, if one was.
+#[inline(always)]
 fn bit_where(put: bool, to: u8) -> u8 {
     if put {
         1u8.wrapping_shl(u32::from(to))
@@ -285,6 +294,7 @@ fn bit_where(put: bool, to: u8) -> u8 {
     }
 }
 
+#[inline(always)]
 fn either(a: bool, b: bool) -> bool
     ensures { result ≡ (a || b) }
 {

@@ -12,7 +12,9 @@ use Rattle.end_table.specs.Table.{entries}
 use Rattle.kernel_core.specs.State.{state_of}
 use Rattle.kernel_entries.specs.declared.entry.Entry.{Entry}
 use Rattle.kernel_core.specs.State.{KernelView}
+use Rattle.kernel_net.proofs.Ports.{found-got}
 use Rattle.kernel_net.specs.Letters.{greatest_stamp}
+use Rattle.kernel_net.specs.Ports.{GetsOne, place_of}
 use Rattle.kernel_net.specs.declared.letter.Letter.{Letter}
 use Rattle.kernel_net.specs.declared.letter.Letter.TheVariants as letter
 use Rattle.kernel_step.specs.Calls.{IsCallWith}
@@ -24,7 +26,7 @@ use Rattle.kernel_turns.proofs.Turned.{node-ready, works-both, works-in_time}
 use Rattle.kernel_turns.specs.Amid.{IsAmidTurn, IsSomeNode}
 use Rattle.kernel_turns.specs.Events.{Happens}
 use Rattle.kernel_turns.specs.Nodes.{Meaning}
-use Rattle.kernel_turns.specs.Turns.{Asks, BeginsOnce, Continues, BeginsInTime, GetsLetter, GetsMarker, HasTurns, Hears, IsLent, IsTurn, KeepsWork, NoLetter, Pauses, PutsLetters, SpendsTurns, StepsAt, TakesIt, Works, with_marker}
+use Rattle.kernel_turns.specs.Turns.{Asks, BeginsOnce, Continues, BeginsInTime, FindsLetter, GetsLetter, GetsMarker, HasTurns, Hears, IsLent, IsTurn, KeepsWork, NoLetter, Pauses, PutsLetters, SpendsTurns, StepsAt, TakesIt, Works, with_marker}
 use Rattle.kernel_turns.specs.declared.base.Base.{Base}
 use Rattle.kernel_turns.specs.declared.node.Node.{Node}
 use Rattle.kernel_turns.specs.declared.node.Turn.{Turn}
@@ -54,6 +56,16 @@ module _ {P S W : Type 0} (m : Meaning P S) where
       → new ≡ record n { base = record n.base { used = n.base.used + 1 }; programs = stepped } → Continues m put turn.Paused n new
   paused-continues n new put place p given does stepped turns silent next lent none steps rest =
       subst (Continues m put turn.Paused n) (sym rest) (Pauses n place p given does stepped turns silent next lent none steps)
+
+-- the letter of the kernel that was found is got
+pub finds-gets : (from : ℕ) (l : Letter) (before found new : Base) → FindsLetter from before found → GetsOne from l found.port new.port → place_of new.port ≡ place_of found.port → new ≡ record found { port = new.port }
+    → GetsLetter from l before new
+finds-gets from l before found new finds gets place rest =
+    record {
+      got = found-got from l before.port found.port new.port finds.found gets;
+      place = place ∙ finds.place;
+      rest = rest ∙ ap (λ (b : Base). record b { port = new.port }) finds.rest;
+    }
 
 -- a packet, or a marker, among letters
 pub got-as : (from : ℕ) (l l' : Letter) (old new : Base) → l ≡ l' → GetsLetter from l old new → GetsLetter from l' old new
@@ -85,11 +97,11 @@ module _ {P S W : Type 0} (m : Meaning P S) (HasSeen : W → List Entry → Type
   pub amid-same : (base : Base) → base ≡ ready → ready.used ≢ ready.orders.limit → IsAmidTurn m HasSeen (record n { base = base })
   amid-same base same left = subst (λ b. IsAmidTurn m HasSeen (record n { base = b })) (sym same) (amid-ready left)
 
-  pub turn-heard : {E : Type 0} (r : Result Turn E) (from : ℕ) (l : Letter) (got : Base) → ready.used ≢ ready.orders.limit → GetsLetter from l ready got
-      → IfOk r (λ t. (before : Base) (put' : Bool) → IsAmidTurn m HasSeen (record n { base = before }) → GetsLetter from l before got → Continues m put' t (record n { base = before }) new) → IfOk r (λ t. IsTurn m t n new)
-  turn-heard r from l got left gets heard =
-      if-ok r (λ t. (before : Base) (put' : Bool) → IsAmidTurn m HasSeen (record n { base = before }) → GetsLetter from l before got → Continues m put' t (record n { base = before }) new) (λ t. IsTurn m t n new)
-      (λ t goes. Works n begun ready put t new early time puts (goes ready put (amid-ready left) gets)) heard
+  pub turn-heard : {E : Type 0} (r : Result Turn E) (from : ℕ) (found : Base) → ready.used ≢ ready.orders.limit → FindsLetter from ready found
+      → IfOk r (λ t. (before : Base) (put' : Bool) → IsAmidTurn m HasSeen (record n { base = before }) → FindsLetter from before found → Continues m put' t (record n { base = before }) new) → IfOk r (λ t. IsTurn m t n new)
+  turn-heard r from found left finds heard =
+      if-ok r (λ t. (before : Base) (put' : Bool) → IsAmidTurn m HasSeen (record n { base = before }) → FindsLetter from before found → Continues m put' t (record n { base = before }) new) (λ t. IsTurn m t n new)
+      (λ t goes. Works n begun ready put t new early time puts (goes ready put (amid-ready left) finds)) heard
 
   pub turn-went : {E : Type 0} (r : Result Turn E) (base : Base) → base ≡ ready → IfOk r (λ t. Continues m put t (record n { base = base }) new) → IfOk r (λ t. IsTurn m t n new)
   turn-went r base same went =

@@ -1,11 +1,12 @@
 -- Where a node begins, and how its letters go out.
-use Rattle.std.proofs.Common.{◌≡◌, ℕ, ◌<◌, ◌≤◌, Bool, Option, Some, None, is_some, true, false, List, [], ◌++◌, length, map, refl, ap, sym, subst, ◌∙◌}
+use Rattle.std.proofs.Common.{◌≡◌, ℕ, ◌<◌, ◌≤◌, Bool, Option, Some, None, is_some, true, false, List, [], ◌++◌, length, map, refl, ap, sym, subst, ◌∙◌, arith}
 use Rattle.std.specs.Prelude.{slice_index_or}
 use Rattle.std.proofs.lemmas.List.Elements.{All-nil}
 use Rattle.charlotte_packets.specs.Packets.{what_picture}
 use Rattle.charlotte_packets.specs.declared.packet.Packet.{Packet}
 use Rattle.kernel_named.specs.Named.{GoWithin, IsSentWithin}
 use Rattle.kernel_net.specs.Ports.{kernels_of, place_of, put_to}
+use Rattle.kernel_outbox.proofs.Emptying.{nothing-unsent}
 use Rattle.kernel_outbox.proofs.Putting.{may-front}
 use Rattle.kernel_outbox.specs.Letters.{Flushes, MayAllBePut, letters_for, outbox_to, waiting_to}
 use Rattle.kernel_outbox.specs.declared.outbox.Outbox.{Outbox}
@@ -67,3 +68,23 @@ puts-emptied put old new o is flushed some unput port unsent fits kept course =
 
 pub none-within : (kernels : ℕ) (sent : List (ℕ × Packet)) → sent ≡ [] → GoWithin kernels sent
 none-within kernels sent none = subst (GoWithin kernels) (sym none) (All-nil (λ (x : ℕ × Packet). IsSentWithin kernels x.0 (what_picture x.1.what)))
+
+-- where no letter is left, none is put
+pub puts-none : (b : Base) → FitsPort b → ((to : ℕ) → outbox_to b.outbox to ≡ []) → PutsLetters false b b
+puts-none b fits none =
+    record {
+      kept = record { kernel = refl; journal = refl; orders = refl; used = refl };
+      course = refl;
+      flushed = record {
+        letters = λ to. refl;
+        fewer = λ to. omega arith;
+        full = λ to more. absurd (let empty : length (outbox_to b.outbox to) ≡ 0 = ap length (none to) in omega (arith, more, empty));
+        into = refl;
+        place = refl;
+      };
+      unsent = nothing-unsent b.outbox none;
+      fits = fits;
+      some = λ is. absurd (let no : false ≡ true = is in cc);
+      none = λ is to. refl;
+      port = λ is. refl;
+    }

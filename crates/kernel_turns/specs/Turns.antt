@@ -12,7 +12,7 @@ use Rattle.charlotte_packets.specs.declared.packet.Packet.{Packet}
 use Rattle.end_table.specs.Table.{entries}
 use Rattle.kernel_core.specs.State.{state_of}
 use Rattle.kernel_net.specs.Letters.{greatest_stamp}
-use Rattle.kernel_net.specs.Ports.{HasGot, kernels_of, known_from, place_of}
+use Rattle.kernel_net.specs.Ports.{HasFound, HasGot, kernels_of, known_from, place_of}
 use Rattle.kernel_net.specs.declared.letter.Letter.{Letter}
 use Rattle.kernel_net.specs.declared.letter.Letter.TheVariants as letter
 use Rattle.kernel_step.specs.Calls.{IsCallWith}
@@ -83,6 +83,12 @@ pub record PutsLetters (put : Bool) (old new : Base) : Type 0 where
   pub some : put ≡ true → (to : ℕ) × (length (outbox_to new.outbox to) < length (outbox_to old.outbox to))
   pub none : put ≡ false → (to : ℕ) → outbox_to new.outbox to ≡ outbox_to old.outbox to
   pub port : put ≡ false → new.port ≡ old.port
+
+-- the first kernel is found of which a letter is known, and of the rest nothing changes
+pub record FindsLetter (from : ℕ) (old new : Base) : Type 0 where
+  pub found : HasFound from old.port new.port
+  pub place : place_of new.port ≡ place_of old.port
+  pub rest : new ≡ record old { port = new.port }
 
 -- a letter is got, and of the rest nothing changes
 pub record GetsLetter (from : ℕ) (l : Letter) (old new : Base) : Type 0 where

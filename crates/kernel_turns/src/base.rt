@@ -8,13 +8,13 @@ ghost use Rattle.kernel_entries.specs.Ranges.{IsEntryInRange};
 ghost use Rattle.kernel_entries.specs.declared.entry.Happened.{Happened};
 ghost use Rattle.kernel_step.specs.Calls.{IsCallWith};
 ghost use Rattle.local_runs.specs.Local.{MakesCall, TakesPacket, gives};
-ghost use Rattle.kernel_net.specs.Ports.{place_of, put_to};
+ghost use Rattle.kernel_net.specs.Ports.{known_from, place_of, put_to};
 ghost use Rattle.kernel_outbox.specs.Letters.{MayAllBePut, outbox_to};
 ghost use Rattle.kernel_turns.specs.Amid.{SameRun};
 ghost use Rattle.kernel_turns.specs.Courses.{marked_of};
 ghost use Rattle.kernel_turns.specs.Events.{FitsPort, Happens};
 ghost use Rattle.kernel_turns.specs.declared.base.Base.{Base as ABase};
-ghost use Rattle.kernel_turns.specs.Turns.{BeginsInTime, BeginsOnce, GetsLetter, IsTime, NoLetter, PutsLetters, unbegun_markers, with_marker};
+ghost use Rattle.kernel_turns.specs.Turns.{BeginsInTime, BeginsOnce, FindsLetter, GetsLetter, IsTime, NoLetter, PutsLetters, unbegun_markers, with_marker};
 
 use crate::course::Course;
 use charlotte_calls::{Call, NoMemory, Pid};
@@ -73,18 +73,18 @@ impl Base {
     }
 
     /// The kernel takes a packet. Who was answered. After want of memory kernel and journal are as before.
-    pub(crate) fn take(&mut self, from: u8, packet: Packet) -> Result<Vec<Pid>, NoMemory>
+    #[inline(always)]
+    pub(crate) fn take(&mut self, from: u8, packet: &mut Packet) -> Result<Vec<Pid>, NoMemory>
         requires from { from < self.old.kernel.kernels }
-        requires later { IsAfterLast self.old.journal.entries (gives (state_of self.old.kernel) (TakesPacket from (packet_picture packet))).kernel.stamp }
+        requires later { IsAfterLast self.old.journal.entries (gives (state_of self.old.kernel) (TakesPacket from (packet_picture packet.old))).kernel.stamp }
         requires unsent { self.old.outbox.unsent.items ≡ [] }
         requires used { self.old.used < 2 ^ 32 - 1 }
-        ensures happens { IfOk result (λ who. Happens (TakesPacket from (packet_picture packet)) self.old self.new who.items) }
+        ensures happens { IfOk result (λ who. Happens (TakesPacket from (packet_picture packet.old)) self.old self.new who.items) }
         ensures in_range { OnOk result (All IsEntryInRange self.new.journal.entries) }
         ensures same { OnErr result (SameRun self.old self.new) }
     {
-        let mut packet = packet;
-        self.journal.took(from, &packet)?;
-        let effect = self.kernel.take_from(from, &mut packet)?;
+        self.journal.took(from, packet)?;
+        let effect = self.kernel.take_from(from, packet)?;
         Ok(self.close(effect))
     }
 
@@ -106,6 +106,7 @@ impl Base {
     }
 
     /// An event is over. Nothing of this can want memory: what it leaves is kept as it is. Who was answered.
+    #[inline(always)]
     fn close(&mut self, effect: Effect) -> Vec<Pid>
         requires begun { (what : Happened) × (self.old.journal.begun ≡ Some what) }
         requires after_last { IsAfterLast self.old.journal.entries effect.stamp }
@@ -155,6 +156,7 @@ impl Base {
     }
 
     /// Whether it is time to begin a snapshot.
+    #[inline(always)]
     fn is_due(&self) -> bool
         ensures { IsTrue result ↔ IsTime self.now }
     {
@@ -165,6 +167,7 @@ impl Base {
     }
 
     /// Begins a snapshot where it is time, and it did not.
+    #[inline(always)]
     fn begin_in_time(&mut self) -> Result<(), NoMemory>
         requires fits { FitsPort self.old }
         ensures begins { OnOk result (BeginsInTime self.old self.new) }
@@ -182,6 +185,7 @@ impl Base {
     }
 
     /// Puts letters while they are accepted. Whether one was put.
+    #[inline(always)]
     fn put(&mut self) -> Result<bool, NoMemory>
         requires fits { FitsPort self.old }
         requires letters { (to : ℕ) → MayAllBePut (put_to self.old.port to) (outbox_to self.old.outbox to) }
@@ -192,12 +196,16 @@ impl Base {
         ensures used { self.new.used ≡ self.old.used }
         ensures place { place_of self.new.port ≡ place_of self.old.port }
     {
+        if self.outbox.is_empty() {
+            return Ok(false);
+        }
         let put = self.outbox.put(&mut self.port)?;
         self.kernel.reuse(self.outbox.emptied());
         Ok(put)
     }
 
     /// Begins a snapshot where it is time, and puts letters while they are accepted. Whether one was put.
+    #[inline(always)]
     pub(crate) fn make_ready(&mut self) -> Result<bool, NoMemory>
         requires fits { FitsPort self.old }
         requires letters { (to : ℕ) → MayAllBePut (put_to self.old.port to) (outbox_to self.old.outbox to ++ unbegun_markers self.old to) }
@@ -213,12 +221,22 @@ impl Base {
         Ok(put)
     }
 
-    /// Gets a letter, if one is known to be there, with the number of its kernel.
-    pub(crate) fn get(&mut self) -> Option<(u8, Letter)>
-        ensures some { IfSome result (λ r. GetsLetter r.0 r.1 self.old self.new) }
+    /// The first kernel of which a letter is known to be there, if one is.
+    #[inline(always)]
+    pub(crate) fn first(&mut self) -> Option<u8>
+        ensures some { IfSome result (λ from. FindsLetter from self.old self.new) }
         ensures none { IfNone result ((self.new ≡ self.old) × NoLetter self.old) }
     {
-        self.port.get()
+        self.port.first()
+    }
+
+    /// Gets the first letter of a kernel of which one is known to be there.
+    #[inline(always)]
+    pub(crate) fn get_from(&mut self, from: u8) -> Letter
+        requires { 0 < length (known_from self.old.port from) }
+        ensures { (before : ABase) → FindsLetter from before self.old → GetsLetter from result before self.new }
+    {
+        self.port.get_from(from)
     }
 
     /// The marker of a kernel was got.

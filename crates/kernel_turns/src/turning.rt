@@ -18,7 +18,7 @@ ghost use Rattle.kernel_turns.specs.Amid.{IsAmidTurn, IsSomeNode, SameRun};
 ghost use Rattle.kernel_turns.specs.Events.{Happens};
 ghost use Rattle.kernel_turns.specs.Goes.{Goes};
 ghost use Rattle.kernel_turns.specs.Left.{Lessens, weight};
-ghost use Rattle.kernel_turns.specs.Turns.{Continues, GetsLetter, Hears, IsLent, IsTurn, NoLetter};
+ghost use Rattle.kernel_turns.specs.Turns.{Continues, FindsLetter, Hears, IsLent, IsTurn, NoLetter};
 ghost use Rattle.kernel_turns.specs.declared.base.Base.{Base as ABase};
 
 use crate::node::{Node, Turn};
@@ -52,6 +52,7 @@ impl<P: Program, W: Watch> Node<P, W> {
     }
 
     /// A turn, where memory was there so far.
+    #[inline(always)]
     fn turn_unspoiled(&mut self) -> Result<Turn, NoMemory>
         requires node { IsSomeNode (record { step = P.step; state = P.state; last = P.last; version = P.version }) W.HasSeen self.old }
         requires unspoiled { self.old.spoiled ≡ false }
@@ -72,16 +73,17 @@ impl<P: Program, W: Watch> Node<P, W> {
         if self.base.used == self.base.orders.limit {
             return Ok(Turn::Spent);
         }
-        match self.base.get() {
-            Some((from, letter)) => self.hear(from, letter),
+        match self.base.first() {
+            Some(from) => self.hear(from),
             None => self.go_on(put),
         }
     }
 
-    /// A letter of a kernel was got.
-    fn hear(&mut self, from: u8, letter: Letter) -> Result<Turn, NoMemory>
-        requires amid { (before : ABase) × IsAmidTurn (record { step = P.step; state = P.state; last = P.last; version = P.version }) W.HasSeen (record self.old { base = before }) × GetsLetter from letter before self.old.base }
-        ensures turn { IfOk result (λ t. (before : ABase) (put : Bool) → IsAmidTurn (record { step = P.step; state = P.state; last = P.last; version = P.version }) W.HasSeen (record self.old { base = before }) → GetsLetter from letter before self.old.base
+    /// The first letter of a kernel is got.
+    #[inline(always)]
+    fn hear(&mut self, from: u8) -> Result<Turn, NoMemory>
+        requires amid { (before : ABase) × IsAmidTurn (record { step = P.step; state = P.state; last = P.last; version = P.version }) W.HasSeen (record self.old { base = before }) × FindsLetter from before self.old.base }
+        ensures turn { IfOk result (λ t. (before : ABase) (put : Bool) → IsAmidTurn (record { step = P.step; state = P.state; last = P.last; version = P.version }) W.HasSeen (record self.old { base = before }) → FindsLetter from before self.old.base
             → Continues (record { step = P.step; state = P.state; last = P.last; version = P.version }) put t (record self.old { base = before }) self.new) }
         ensures in_range { OnOk result (All IsEntryInRange self.new.base.journal.entries) }
         ensures seen { OnOk result (W.HasSeen self.new.watch self.new.base.journal.entries) }
@@ -92,10 +94,10 @@ impl<P: Program, W: Watch> Node<P, W> {
         ensures count { length self.new.programs.all.items ≡ length self.old.programs.all.items }
         ensures made { W.made self.new.watch ≡ W.made self.old.watch }
     {
-        match letter {
-            Letter::Packet(packet) => {
+        match self.base.get_from(from) {
+            Letter::Packet(mut packet) => {
                 tell_packet(&packet);
-                self.take(from, packet)?;
+                self.take(from, &mut packet)?;
                 Ok(Turn::Event)
             }
             Letter::Marker => {
@@ -106,13 +108,14 @@ impl<P: Program, W: Watch> Node<P, W> {
     }
 
     /// The kernel takes a packet.
-    fn take(&mut self, from: u8, packet: Packet) -> Result<(), NoMemory>
+    #[inline(always)]
+    fn take(&mut self, from: u8, packet: &mut Packet) -> Result<(), NoMemory>
         requires from { from < self.old.base.kernel.kernels }
-        requires later { IsAfterLast self.old.base.journal.entries (gives (state_of self.old.base.kernel) (TakesPacket from (packet_picture packet))).kernel.stamp }
+        requires later { IsAfterLast self.old.base.journal.entries (gives (state_of self.old.base.kernel) (TakesPacket from (packet_picture packet.old))).kernel.stamp }
         requires unsent { self.old.base.outbox.unsent.items ≡ [] }
         requires used { self.old.base.used < 2 ^ 32 - 1 }
         requires seen { W.HasSeen self.old.watch self.old.base.journal.entries }
-        ensures took { OnOk result ((who : List APid) × Happens (TakesPacket from (packet_picture packet)) self.old.base self.new.base who × Hears who self.old.programs self.new.programs) }
+        ensures took { OnOk result ((who : List APid) × Happens (TakesPacket from (packet_picture packet.old)) self.old.base self.new.base who × Hears who self.old.programs self.new.programs) }
         ensures rest { OnOk result (self.new ≡ record self.old { base = self.new.base; programs = self.new.programs; watch = self.new.watch }) }
         ensures in_range { OnOk result (All IsEntryInRange self.new.base.journal.entries) }
         ensures seen { OnOk result (W.HasSeen self.new.watch self.new.base.journal.entries) }
@@ -154,6 +157,7 @@ impl<P: Program, W: Watch> Node<P, W> {
     }
 
     /// No letter was got: a program makes a step, if one can.
+    #[inline(always)]
     fn go_on(&mut self, put: bool) -> Result<Turn, NoMemory>
         requires amid { IsAmidTurn (record { step = P.step; state = P.state; last = P.last; version = P.version }) W.HasSeen self.old }
         requires letter { NoLetter self.old.base }
@@ -217,6 +221,7 @@ impl<P: Program, W: Watch> Node<P, W> {
     }
 
     /// What the program at a place is lent: a copy of the answer to the call that it asked.
+    #[inline(always)]
     fn lent(&self, place: usize, p: Pid) -> Option<Answer>
         requires place { place < length self.now.programs.all.items }
         requires process { p.0 < length self.now.base.kernel.processes }
@@ -233,6 +238,7 @@ impl<P: Program, W: Watch> Node<P, W> {
     }
 
     /// An event happened, in which these processes were answered: the programs and the watch are told.
+    #[inline(always)]
     fn tell(&mut self, answered: Vec<Pid>)
         requires seen { (before : List Entry) × (e : Entry) × (self.old.base.journal.entries ≡ before ++ e ∷ []) × W.HasSeen self.old.watch before }
         ensures programs { Hears answered.items self.old.programs self.new.programs }

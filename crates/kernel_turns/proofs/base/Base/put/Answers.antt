@@ -1,6 +1,6 @@
 use Rattle.std.proofs.Common.{◌≤◌, length, sym, subst, refl}
 use Rattle.kernel_net.specs.Ports.{Place, kernels_of, place_of}
-use Rattle.kernel_turns.proofs.Beginning.{emptied-letters, none-within, puts-emptied}
+use Rattle.kernel_turns.proofs.Beginning.{emptied-letters, none-within, puts-emptied, puts-none}
 use Rattle.kernel_turns.specs.declared.base.Base.{Base}
 use Rattle.kernel_turns.proofs.base.Base.put.Goals as goal
 
@@ -16,3 +16,6 @@ returns-clause-puts c =
     })
     (record { kernel = c.reuse.ensures; journal = refl; orders = refl; used = refl })
     refl
+
+pub returns-then-is_empty-clause-puts : goal.returns-then-is_empty-clause-puts
+returns-then-is_empty-clause-puts c = puts-none c.args.self.now c.requires.fits (c.is_empty.ensures.0 c.if-is_empty.true)

@@ -35,17 +35,17 @@ go_on-requires-clause-amid g c =
     let early : c.args.self.now.base.kernel.stamp < greatest_stamp = search rules in
     let left : c.make_ready.new.self.used ≢ c.make_ready.new.self.orders.limit = search rules in
     let ready = c.in_ok-put.ensures.ready in
-    amid-same _ _ c.args.self.now c.args.self.now ready.0 c.make_ready.new.self _ c.requires.node c.requires.unspoiled early ready.1 ready.2 c.get.new.self c.in-None.ensures.none.0 left
+    amid-same _ _ c.args.self.now c.args.self.now ready.0 c.make_ready.new.self _ c.requires.node c.requires.unspoiled early ready.1 ready.2 c.first.new.self c.in-None.ensures.none.0 left
 
 pub returns-in-Some-clause-turn : goal.returns-in-Some-clause-turn
 returns-in-Some-clause-turn g c =
     let early : c.args.self.now.base.kernel.stamp < greatest_stamp = search rules in
     let left : c.make_ready.new.self.used ≢ c.make_ready.new.self.orders.limit = search rules in
     let ready = c.in_ok-put.ensures.ready in
-    turn-heard _ _ c.args.self.now _ ready.0 c.make_ready.new.self _ c.requires.node c.requires.unspoiled early ready.1 ready.2 c.hear.result _ _ c.get.new.self left c.in-Some.ensures.some c.hear.ensures.turn
+    turn-heard _ _ c.args.self.now _ ready.0 c.make_ready.new.self _ c.requires.node c.requires.unspoiled early ready.1 ready.2 c.hear.result _ c.first.new.self left c.in-Some.ensures.some c.hear.ensures.turn
 
 pub returns-in-None-clause-turn : goal.returns-in-None-clause-turn
 returns-in-None-clause-turn g c =
     let early : c.args.self.now.base.kernel.stamp < greatest_stamp = search rules in
     let ready = c.in_ok-put.ensures.ready in
-    turn-went _ _ c.args.self.now _ ready.0 c.make_ready.new.self _ c.requires.node c.requires.unspoiled early ready.1 ready.2 c.go_on.result c.get.new.self c.in-None.ensures.none.0 c.go_on.ensures.turn
+    turn-went _ _ c.args.self.now _ ready.0 c.make_ready.new.self _ c.requires.node c.requires.unspoiled early ready.1 ready.2 c.go_on.result c.first.new.self c.in-None.ensures.none.0 c.go_on.ensures.turn
