@@ -9,6 +9,8 @@ mod gates;
 #[cfg(test)]
 mod nodes;
 #[cfg(test)]
+mod random;
+#[cfg(test)]
 mod runs;
 #[cfg(test)]
 mod snapshots;
