@@ -1,0 +1,9 @@
+pub mod Seen
+pub mod Ends
+pub mod Counted
+pub mod Noted
+pub mod Sets
+pub mod Found
+pub mod Numbered
+pub mod Kept
+pub mod Opened
