@@ -92,7 +92,7 @@ held-calm h (entry.Destroyed m) = refl
 puts-calm : (y : EndId → Entry) (e : EndId) (x : Entry) (others : EndId → Entry → Entry) → IsSteadily (y e) x → ((q : EndId) → IsSteadily (y q) (others q (y q))) → (q : EndId) → IsSteadily (y q) (puts e x others q (y q))
 puts-calm y e x others own rest q = puts-each (IsSteadily (y q)) e x others q (y q) (λ same. subst (λ z. IsSteadily (y z) x) (end_eq-same e q same) own) (λ other. rest q)
 
-turns-calm : (y : EndId → Entry) (xs : List EndId) (h : Holder) (q : EndId) → IsSteadily (y q) (turns xs (held_entry h) stays q (y q))
+pub turns-calm : (y : EndId → Entry) (xs : List EndId) (h : Holder) (q : EndId) → IsSteadily (y q) (turns xs (held_entry h) stays q (y q))
 turns-calm y xs h q = turns-each (IsSteadily (y q)) xs (held_entry h) stays q (y q) (λ among. held-calm h (y q)) (λ other. steadily-same (y q))
 
 -- ---- effects at kernel k, which keeps y of each end

@@ -26,10 +26,11 @@ use Rattle.theorem_meaning.specs.Packets.{IsUnderWay, Links, values_of}
 use Rattle.theorem_meaning.specs.StandsFor.{entry_at}
 use Rattle.trace_calm.specs.Calm.{AreAsOpen, IsCalm, IsCalmly, IsClosing, IsErased, IsPassable, IsPassedOn, IsRetired, IsTrueAsk}
 use Rattle.trace_events.proofs.Clauses.{announced-on, known-on, left-on, mark-on, reached-on, seen-on, under_way-or}
-use Rattle.trace_events.specs.Had.{HasSome, IsMourned, IsTelling, IsToldOf}
+use Rattle.trace_events.proofs.Open.{open-so, opposite-free}
+use Rattle.trace_events.specs.Had.{HasSome}
 use Rattle.trace_events.specs.Leading.{IsLeading}
 use Rattle.trace_meaning.proofs.Chains.{chain-here}
-use Rattle.trace_meaning.specs.Traces.{AreTraced, IsAnnounced, IsKnownRight, IsLeftRight, IsMarkRight, IsMet, IsReached, IsSeenRight, IsToForget, IsTraceRight, IsTraced, IsTrailed}
+use Rattle.trace_meaning.specs.Traces.{AreTraced, IsAnnounced, IsKnownRight, IsLeftRight, IsMarkRight, IsMet, IsMourned, IsReached, IsSeenRight, IsTelling, IsToForget, IsToldOf, IsTraceRight, IsTraced, IsTrailed}
 use Rattle.trace_meaning.specs.Words.{HasChain, HasMark, IsBackTo, IsForgetOf, IsGoingTo, IsGoneFrom, IsGoneSeen, IsKnownOf, IsOnTrack, IsParcelTo, IsSought, LeadsOn}
 
 -- ---- kinds of packets
@@ -69,7 +70,7 @@ parcel-neither w e (packet.Parcel to n a at hops bytes ms) (inr (inr closes)) is
 parcel-neither w e _ any is = is
 
 -- what asks tells where its end is
-asks-at : (w : Links) (e to : EndId) (j h at hops : ℕ) → IsHereAnd (entry_at w at (opposite to)) (λ v. v.value.hops ≡ hops) → to ≡ opposite e → at ≡ j → hops ≡ h → IsHereAnd (entry_at w j e) (λ v. v.value.hops ≡ h)
+pub asks-at : (w : Links) (e to : EndId) (j h at hops : ℕ) → IsHereAnd (entry_at w at (opposite to)) (λ v. v.value.hops ≡ hops) → to ≡ opposite e → at ≡ j → hops ≡ h → IsHereAnd (entry_at w j e) (λ v. v.value.hops ≡ h)
 asks-at w e to j h at hops ask its site same =
     subst (λ z. IsHereAnd (entry_at w j e) (λ v. v.value.hops ≡ z)) same
     (subst (λ z. IsHereAnd (entry_at w z e) (λ v. v.value.hops ≡ hops)) site
@@ -319,21 +320,14 @@ module _ {w u : Links} {c : Change} (b : Changes w c u) (old now : EndId → End
               by (inl same) = some (same ∙ none)
               by (inr cleared) = some cleared
 
-          open-so : (y : End) → is_living y.place ≡ true → y.noticed ≡ false → is_open y ≡ true
-          open-so y lives free = λ i. lives i && (if free i then false else true)
-
           -- neither end knows of a death
           leads : (old e).noticed ≡ false → is_living (old (opposite e)).place ≡ true → IsLeading w u c (opposite e) v.value.hint.1
           leads free lives =
               calm-leads (opposite e) v.value.hint.1
-              (λ j to h left gone. calm.cleared (opposite e) j to h (At k) v.value left gone (inl (open-so (old (opposite e)) lives (unnoticed (old (opposite e)).noticed refl)))
+              (λ j to h left gone. calm.cleared (opposite e) j to h (At k) v.value left gone (inl (open-so (old (opposite e)) lives (opposite-free old deaths e (here_living k e v was))))
               (subst (λ z. IsSought w old z) (sym (opposite-twice e)) (inl (open-so (old e) (here_living k e v was) free)))
               (subst (λ z. HasFields w z (At k) v.value) (sym (opposite-twice e)) (ap value_of was)))
               (λ j m mark gone. not-both (opposite e) (marked j (opposite e) m mark) lives)
-            where
-              unnoticed : (a : Bool) → (old (opposite e)).noticed ≡ a → (old (opposite e)).noticed ≡ false
-              unnoticed false is = is
-              unnoticed true is = absurd (not-both e (subst (λ z. (old z).place ≡ place.Destroyed) (opposite-twice e) (deaths (opposite e) is)) (here_living k e v was))
 
       calm-mark : (e : EndId) (d : ℕ) (m : MovingPicture) → entry_at w d e ≡ entry.Destroyed m → entry_at u d e ≡ entry.Destroyed m → IsMarkRight w old e d m → IsMarkRight u now e d m
       calm-mark e d m was stays is =

@@ -32,8 +32,9 @@ use Rattle.theorem_take_silent.proofs.Places.{here-living}
 use Rattle.trace_calm.proofs.Calls.{steadily-same}
 use Rattle.trace_calm.proofs.Calm.{calm-traced}
 use Rattle.trace_calm.proofs.Steady.{steadily-calmly}
-use Rattle.trace_calm.proofs.Takings.{chosen, one-same}
+use Rattle.trace_calm.proofs.Takings.{chosen}
 use Rattle.trace_calm.specs.Calm.{AreAsOpen, IsCalm, IsCalmly}
+use Rattle.trace_events.proofs.One.{is-taken as was-taken, put-had, put-has, put-or, put-stays}
 use Rattle.trace_meaning.specs.Traces.{AreTraced, IsTrailed}
 use Rattle.trace_meaning.specs.Words.{HasMark, IsForgetOf, IsGoneFrom, IsGoneSeen, IsKnownOf, IsMovedTo, IsSought}
 
@@ -67,20 +68,14 @@ module _ (i : ℕ) (w : World) (s : State) (is : Invariant i w s) (k from stamp 
 
   -- all stay but one
   entry-or : (j : ℕ) (e : EndId) → (entry_at u j e ≡ entry_at l j e) ⊎ ((j ≡ k) × (to ≡ e))
-  entry-or j e = by (eqb_tells j k) (end_eq to e) refl
-    where
-      by : ((nat_eq j k ≡ true) × (j ≡ k)) ⊎ ((nat_eq j k ≡ false) × (j ≢ k)) → (b : Bool) → end_eq to e ≡ b → (entry_at u j e ≡ entry_at l j e) ⊎ ((j ≡ k) × (to ≡ e))
-      by (inr off) b same = inl (happened.becomes.links.others j e off.0)
-      by (inl at) true same = inr (at.1, end_eq-same to e same)
-      by (inl at) false same =
-          inl (subst (λ z. entry_at u z e ≡ entry_at l z e) (sym at.1) (happened.becomes.links.entry e ∙ ap (λ b. if b then entry.Nothing else (w.kernel k).table e) same))
+  entry-or = put-or happened.becomes.links to (entry.Left a h) entry.Nothing stood (λ e. refl)
 
   -- it was a forwarding entry, and is none
   was-left : (j : ℕ) (e : EndId) → (j ≡ k) × (to ≡ e) → entry_at l j e ≡ entry.Left a h
-  was-left j e its = ap (λ z. entry_at l z e) its.0 ∙ ap (w.kernel k).table (sym its.1) ∙ stood
+  was-left = put-had happened.becomes.links to (entry.Left a h) entry.Nothing stood (λ e. refl)
 
   now-none : (j : ℕ) (e : EndId) → (j ≡ k) × (to ≡ e) → entry_at u j e ≡ entry.Nothing
-  now-none j e its = ap (λ z. entry_at u z e) its.0 ∙ ap (entry_at u k) (sym its.1) ∙ happened.becomes.links.entry to ∙ ap (λ b. if b then entry.Nothing else (w.kernel k).table to) (end_eq-refl to)
+  now-none = put-has happened.becomes.links to (entry.Left a h) entry.Nothing stood (λ e. refl)
 
   is-calmly : (j : ℕ) (e : EndId) → IsCalmly (entry_at l j e) (entry_at u j e)
   is-calmly j e = by (entry-or j e)
@@ -91,19 +86,12 @@ module _ (i : ℕ) (w : World) (s : State) (is : Invariant i w s) (k from stamp 
 
   -- an entry that is no Left stays
   stays-so : (j : ℕ) (e : EndId) (y : Entry) → entry_at l j e ≡ y → (y ≡ entry.Left a h → ⊥) → entry_at u j e ≡ y
-  stays-so j e y was unlike = by (entry-or j e)
-    where
-      by : (entry_at u j e ≡ entry_at l j e) ⊎ ((j ≡ k) × (to ≡ e)) → entry_at u j e ≡ y
-      by (inl same) = same ∙ was
-      by (inr its) = absurd (unlike (sym was ∙ was-left j e its))
+  stays-so = put-stays happened.becomes.links to (entry.Left a h) entry.Nothing stood (λ e. refl)
 
   -- ---- packets
 
   is-taken : (P : PictureWhat → Type 0) → IsTaken change P → P (packet.Forget to g)
-  is-taken P x = subst (λ (z : Picture). P z.what) (sym same) x.is
-    where
-      same : q ≡ x.packet
-      same = ap (λ (z : ℕ × Picture). z.1) (one-same (from, q) (x.from, x.packet) x.taken)
+  is-taken = was-taken from q refl
 
   none-sent : (P : PictureWhat → Type 0) → IsSent change P → ⊥
   none-sent P x = none-there {X = ℕ × PictureWhat} (x.to, x.what) x.there

@@ -41,16 +41,18 @@ use Rattle.theorem_meaning.specs.StandsFor.{entry_at}
 use Rattle.theorem_take_silent.proofs.Places.{fields-here, here-living}
 use Rattle.trace_calm.proofs.Calls.{steadily-same}
 use Rattle.trace_calm.proofs.Calm.{calm-traced}
+use Rattle.trace_calm.proofs.Marked.{kernel-low}
 use Rattle.trace_calm.proofs.Steady.{steadily-calmly}
-use Rattle.trace_calm.proofs.Takings.{chosen, one-same}
+use Rattle.trace_calm.proofs.Takings.{chosen}
 use Rattle.trace_calm.specs.Calm.{AreAsOpen, IsCalm, IsCalmly, IsClosing, IsPassedOn, IsTrueAsk}
+use Rattle.trace_events.proofs.One.{is-taken as was-taken, put-had, put-has, put-or, put-stays, put-was}
 use Rattle.trace_events.proofs.Tracks.{going-sent}
 use Rattle.trace_meaning.specs.Traces.{AreTraced, IsToForget, IsTrailed}
 use Rattle.trace_meaning.specs.Words.{HasMark, IsForgetOf, IsGoneFrom, IsGoneSeen, IsKnownOf, IsMovedTo, IsSought}
 
 -- ---- each kernel of a trail is told to forget
 
-contains-flat_map : {X Y : Type 0} (f : X → List Y) (xs : List X) (x : X) (y : Y) → Contains xs x → Contains (f x) y → Contains (flat_map f xs) y
+pub contains-flat_map : {X Y : Type 0} (f : X → List Y) (xs : List X) (x : X) (y : Y) → Contains xs x → Contains (f x) y → Contains (flat_map f xs) y
 contains-flat_map f [] x y has inside = absurd (none-there x has)
 contains-flat_map f (z ∷ xs) x y has inside = by (first_or_later z xs x has) (λ rest. contains-flat_map f xs x y rest inside)
   where
@@ -127,22 +129,17 @@ module _ (i : ℕ) (w : World) (s : State) (is : Invariant i w s) (k from stamp 
 
   -- ---- entries
 
+  clears : (e : EndId) → change.entry e (entry_at l k e) ≡ (if end_eq to e then entry.Here cleared else entry_at l k e)
+  clears e = ap (λ z. if end_eq z e then entry.Here cleared else entry_at l k e) its-end
+
   entry-or : (j : ℕ) (e : EndId) → (entry_at u j e ≡ entry_at l j e) ⊎ ((j ≡ k) × (to ≡ e))
-  entry-or j e = by (eqb_tells j k) (end_eq v.value.end e) refl
-    where
-      by : ((nat_eq j k ≡ true) × (j ≡ k)) ⊎ ((nat_eq j k ≡ false) × (j ≢ k)) → (b : Bool) → end_eq v.value.end e ≡ b → (entry_at u j e ≡ entry_at l j e) ⊎ ((j ≡ k) × (to ≡ e))
-      by (inr off) b same = inl (happened.becomes.links.others j e off.0)
-      by (inl at) true same = inr (at.1, sym its-end ∙ end_eq-same v.value.end e same)
-      by (inl at) false same =
-          inl (subst (λ z. entry_at u z e ≡ entry_at l z e) (sym at.1) (happened.becomes.links.entry e ∙ ap (λ b. if b then entry.Here cleared else (w.kernel k).table e) same))
+  entry-or = put-or happened.becomes.links to (entry.Here v) (entry.Here cleared) stood clears
 
   was-here : (j : ℕ) (e : EndId) → (j ≡ k) × (to ≡ e) → entry_at l j e ≡ entry.Here v
-  was-here j e its = ap (λ z. entry_at l z e) its.0 ∙ ap (w.kernel k).table (sym its.1) ∙ stood
+  was-here = put-had happened.becomes.links to (entry.Here v) (entry.Here cleared) stood clears
 
   now-here : (j : ℕ) (e : EndId) → (j ≡ k) × (to ≡ e) → entry_at u j e ≡ entry.Here cleared
-  now-here j e its =
-      ap (λ z. entry_at u z e) its.0 ∙ happened.becomes.links.entry e
-      ∙ ap (λ b. if b then entry.Here cleared else (w.kernel k).table e) (subst (λ z. end_eq v.value.end z ≡ true) (its-end ∙ its.1) (end_eq-refl v.value.end))
+  now-here = put-has happened.becomes.links to (entry.Here v) (entry.Here cleared) stood clears
 
   is-calmly : (j : ℕ) (e : EndId) → IsCalmly (entry_at l j e) (entry_at u j e)
   is-calmly j e = by (entry-or j e)
@@ -151,29 +148,17 @@ module _ (i : ℕ) (w : World) (s : State) (is : Invariant i w s) (k from stamp 
       by (inl same) = subst (IsCalmly (entry_at l j e)) (sym same) (steadily-calmly (entry_at l j e) (entry_at l j e) (steadily-same (entry_at l j e)))
       by (inr its) = subst (λ y. IsCalmly y (entry_at u j e)) (sym (was-here j e its)) (subst (IsCalmly (entry.Here v)) (sym (now-here j e its)) refl)
 
-  -- an entry that is not here stays
+  -- an entry that is not here stays, and was so
   stays-so : (j : ℕ) (e : EndId) (y : Entry) → entry_at l j e ≡ y → (y ≡ entry.Here v → ⊥) → entry_at u j e ≡ y
-  stays-so j e y was unlike = by (entry-or j e)
-    where
-      by : (entry_at u j e ≡ entry_at l j e) ⊎ ((j ≡ k) × (to ≡ e)) → entry_at u j e ≡ y
-      by (inl same) = same ∙ was
-      by (inr its) = absurd (unlike (sym was ∙ was-here j e its))
+  stays-so = put-stays happened.becomes.links to (entry.Here v) (entry.Here cleared) stood clears
 
-  -- and was so
   was-so : (j : ℕ) (e : EndId) (y : Entry) → entry_at u j e ≡ y → (y ≡ entry.Here cleared → ⊥) → entry_at l j e ≡ y
-  was-so j e y now unlike = by (entry-or j e)
-    where
-      by : (entry_at u j e ≡ entry_at l j e) ⊎ ((j ≡ k) × (to ≡ e)) → entry_at l j e ≡ y
-      by (inl same) = sym same ∙ now
-      by (inr its) = absurd (unlike (sym now ∙ now-here j e its))
+  was-so = put-was happened.becomes.links to (entry.Here v) (entry.Here cleared) stood clears
 
   -- ---- packets
 
   is-taken : (P : PictureWhat → Type 0) → IsTaken change P → P (packet.Known to g)
-  is-taken P x = subst (λ (z : Picture). P z.what) (sym same) x.is
-    where
-      same : q ≡ x.packet
-      same = ap (λ (z : ℕ × Picture). z.1) (one-same (from, q) (x.from, x.packet) x.taken)
+  is-taken = was-taken from q refl
 
   -- each packet that is sent tells to forget
   each-forgets : (P : ℕ → PictureWhat → Type 0) → ((j : ℕ) → P j (packet.Forget v.value.end v.value.hops)) → AllSent P (forget_packets k v.value)
@@ -239,11 +224,7 @@ module _ (i : ℕ) (w : World) (s : State) (is : Invariant i w s) (k from stamp 
 
       -- it stands at a kernel that there is, and that is not k
       low : j < 8
-      low = near (nat_lt j (length s.made)) refl
-        where
-          near : (a : Bool) → nat_lt j (length s.made) ≡ a → j < 8
-          near true below = let one : j < length s.made = ltb-true j (length s.made) below in let few : length s.made ≤ 8 = is.setting.few in omega (arith, one, few)
-          near false above = absurd (let differ : entry.Nothing ≡ entry.Left b h = sym (is.links.named.away j e (ltb-false j (length s.made) above)) ∙ was in cc)
+      low = kernel-low (length s.made) l s.ends is.setting.few is.links.named is.links.marked is.stands.links.once j e (entry.Left b h) was (λ differ. cc)
 
       of_its : to ≡ e → IsTrailed u s.ends e j ⊎ IsToForget u e j h
       of_its own = inr (record { hops = v.value.hops; there = going-sent happened.becomes.links j (packet.Forget v.value.end v.value.hops) (IsForgetOf e v.value.hops) (forget-there k j v.value low set off) (its-end ∙ own, refl); covers = older (At k) v.value (ap value_of here) })

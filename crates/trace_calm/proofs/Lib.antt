@@ -4,3 +4,6 @@ pub mod Calls
 pub mod Takings
 pub mod Forget
 pub mod Known
+pub mod Marked
+pub mod Erased
+pub mod Gone

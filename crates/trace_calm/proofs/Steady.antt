@@ -35,6 +35,11 @@ steadily-calmly (entry.Left to hops) (entry.Left there more) like = like
 steadily-calmly (entry.Destroyed m) (entry.Destroyed l) like = like
 steadily-calmly _ _ like = absurd like
 
+-- an entry that is as that of an end that is here
+pub here-so : (v : HereView) (z : Entry) → IsSteadily (entry.Here v) z → (o : HereView) × (z ≡ entry.Here o) × IsCounted v.value o.value
+here-so v (entry.Here o) like = (o, refl, like)
+here-so v _ like = absurd like
+
 -- what is passed on or asks does not close
 closes-not : (w : Links) (q : PictureWhat) → IsPassable q ⊎ IsTrueAsk w q → IsClosing q → ⊥
 closes-not w (packet.Forget to hops) (inl passes) closes = passes

@@ -51,7 +51,7 @@ use Rattle.trace_meaning.specs.Words.{HasChain, IsChain, IsFlying, IsForgetOf, I
 pub chosen : {X : Type 0} (a : Bool) (x y : X) → a ≡ true → (if a then x else y) ≡ x
 chosen {X} a x y is = ap (λ (b : Bool). if b then x else y) is
 
-passed-over : {X : Type 0} (a : Bool) (x y : X) → a ≡ false → (if a then x else y) ≡ y
+pub passed-over : {X : Type 0} (a : Bool) (x y : X) → a ≡ false → (if a then x else y) ≡ y
 passed-over {X} a x y is = ap (λ (b : Bool). if b then x else y) is
 
 module _ (k : ℕ) (y : EndId → Entry) where

@@ -187,3 +187,9 @@ IsDropped (packet.Known to hops) x = IfHere x (λ v. (v.value.dead ≡ true) ⊎
 IsDropped (packet.Forget to hops) x = IsNewer hops x
 IsDropped (packet.GoneSeen to) x = IsNoMark x
 IsDropped _ x = ⊥
+
+-- a packet tells of a death, or that it was seen: at a mark of its end, that is erased
+abbrev pub IsOfDeath : PictureWhat → Type 0
+IsOfDeath (packet.Gone to at) = Unit {0}
+IsOfDeath (packet.GoneSeen to) = Unit {0}
+IsOfDeath _ = ⊥

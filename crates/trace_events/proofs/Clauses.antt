@@ -18,9 +18,9 @@ use Rattle.theorem_effects.specs.Under.{IsLeft, IsSent, IsTaken}
 use Rattle.theorem_meaning.specs.Fields.{HasFields, IsHeard, IsUnserved, Stand}
 use Rattle.theorem_meaning.specs.Packets.{Each, IsUnderWay, Links}
 use Rattle.trace_events.proofs.Tracks.{chain-on, going-after, track-after}
-use Rattle.trace_events.specs.Had.{HasSome, IsMourned, IsTelling, IsToldOf}
+use Rattle.trace_events.specs.Had.{HasSome}
 use Rattle.trace_events.specs.Leading.{IsLeading}
-use Rattle.trace_meaning.specs.Traces.{IsAnnounced, IsKnownRight, IsLeftRight, IsMarkRight, IsReached, IsSeenRight, IsToForget, IsTrailed}
+use Rattle.trace_meaning.specs.Traces.{IsAnnounced, IsKnownRight, IsLeftRight, IsMarkRight, IsMourned, IsReached, IsSeenRight, IsTelling, IsToForget, IsToldOf, IsTrailed}
 use Rattle.trace_meaning.specs.Words.{HasChain, IsBackTo, IsForgetOf, IsGoingTo, IsGoneFrom, IsGoneSeen, IsKnownOf, IsMovedTo, IsOnTrack, IsParcelTo, IsSought}
 
 -- a packet of a kind that was sent, or that was under way before

@@ -1,3 +1,5 @@
 pub mod Tracks
 pub mod Clauses
 pub mod Aside
+pub mod One
+pub mod Open

@@ -190,31 +190,31 @@ module _ (w v : Links) (e : EndId) (l : IsSameTrack w v e) where
 
 -- ---- what packets are addressed to
 
-to-goneseen : (e : EndId) (q : PictureWhat) → IsGoneSeen e q → addressee q ≡ e
+pub to-goneseen : (e : EndId) (q : PictureWhat) → IsGoneSeen e q → addressee q ≡ e
 to-goneseen e (packet.GoneSeen to) is = is
 to-goneseen e _ is = absurd is
 
-to-gone : (t : EndId) (j : ℕ) (q : PictureWhat) → IsGoneFrom t j q → addressee q ≡ t
+pub to-gone : (t : EndId) (j : ℕ) (q : PictureWhat) → IsGoneFrom t j q → addressee q ≡ t
 to-gone t j (packet.Gone to at) is = is.0
 to-gone t j _ is = absurd is
 
-to-back : (t : EndId) (q : PictureWhat) → IsBackTo t q → addressee q ≡ t
+pub to-back : (t : EndId) (q : PictureWhat) → IsBackTo t q → addressee q ≡ t
 to-back t (packet.Back to n ms) is = is
 to-back t _ is = absurd is
 
-to-parcel : (t : EndId) (q : PictureWhat) → IsParcelTo t q → addressee q ≡ t
+pub to-parcel : (t : EndId) (q : PictureWhat) → IsParcelTo t q → addressee q ≡ t
 to-parcel t (packet.Parcel to n w at hops bytes ms) is = is
 to-parcel t _ is = absurd is
 
-to-known : (e : EndId) (h : ℕ) (q : PictureWhat) → IsKnownOf e h q → addressee q ≡ e
+pub to-known : (e : EndId) (h : ℕ) (q : PictureWhat) → IsKnownOf e h q → addressee q ≡ e
 to-known e h (packet.Known to hops) is = is.0
 to-known e h _ is = absurd is
 
-to-forget : (e : EndId) (h : ℕ) (q : PictureWhat) → IsForgetOf e h q → addressee q ≡ e
+pub to-forget : (e : EndId) (h : ℕ) (q : PictureWhat) → IsForgetOf e h q → addressee q ≡ e
 to-forget e h (packet.Forget to hops) is = is.0
 to-forget e h _ is = absurd is
 
-to-moved : (t : EndId) (j h : ℕ) (q : PictureWhat) → IsMovedTo t j h q → addressee q ≡ t
+pub to-moved : (t : EndId) (j h : ℕ) (q : PictureWhat) → IsMovedTo t j h q → addressee q ≡ t
 to-moved t j h (packet.Moved to at hops) is = is.0
 to-moved t j h _ is = absurd is
 

@@ -33,6 +33,11 @@ IsReached w t e =
 
 -- ---- marks
 
+-- the mark of e at kernel d, whose hint has so many hops, is taken away: the opposite has seen the death, or will
+abbrev pub IsMourned : Links → (EndId → End) → EndId → ℕ → ℕ → Type 0
+IsMourned w t e d h =
+    IsGoingTo w d (IsGoneSeen e) ⊎ (IsSought w t (opposite e) × IsOnTrack w (opposite e) h (IsGoneFrom (opposite e) d))
+
 -- the opposite of a mark does not know of the death, and is told from the mark. What an open opposite sends goes there, and what it is asked
 -- for was asked from there, with the last hops of the end
 pub record IsMarkRight (w : Links) (t : EndId → End) (e : EndId) (d : ℕ) (mark : MovingPicture) : Type 0 where
@@ -43,9 +48,7 @@ pub record IsMarkRight (w : Links) (t : EndId → End) (e : EndId) (d : ℕ) (ma
   pub parcels : is_open (t (opposite e)) ≡ true → Each w (λ from to q. IsParcelTo e q → to ≡ d)
   pub asked : (at : Stand) (m : MovingPicture) (n j h : ℕ) → is_open (t (opposite e)) ≡ true → HasFields w (opposite e) at m
       → IsUnserved w (opposite e) m n j h → (j ≡ d) × (h ≡ mark.hops)
-  -- and it is taken away: the opposite has seen the death, or will
-  pub mourned : IsGoingTo w d (IsGoneSeen e)
-      ⊎ (IsSought w t (opposite e) × IsOnTrack w (opposite e) mark.hint.1 (IsGoneFrom (opposite e) d))
+  pub mourned : IsMourned w t e d mark.hint.1
 
 -- a goneseen is of an end that is destroyed, and its opposite is sought no more
 pub record IsSeenRight (w : Links) (t : EndId → End) (e : EndId) : Type 0 where
@@ -74,18 +77,25 @@ pub record IsLeftRight (w : Links) (t : EndId → End) (e : EndId) (k h : ℕ) :
   pub old : (at : Stand) (m : MovingPicture) → HasFields w e at m → h ≤ m.hops
   pub kept : IsTrailed w t e k ⊎ IsToForget w e k h
 
+-- e is told that it is known, or to be forgotten, with so many hops
+abbrev pub IsToldOf : Links → EndId → ℕ → Type 0
+IsToldOf w e h = IsUnderWay w (IsKnownOf e h) ⊎ IsUnderWay w (IsForgetOf e h)
+
 -- known and forget come of what the opposite has learned
 abbrev pub IsKnownRight : Links → (EndId → End) → EndId → Type 0
 IsKnownRight w t e =
     (at : Stand) (m : MovingPicture) (h : ℕ) → IsSought w t e → IsSought w t (opposite e) → HasFields w (opposite e) at m
-    → IsUnderWay w (IsKnownOf e h) ⊎ IsUnderWay w (IsForgetOf e h) → h ≤ m.hint.1
+    → IsToldOf w e h → h ≤ m.hint.1
+
+-- e is at kernel k with so many hops, its hint has h: it is told that its opposite knows so, or tells it
+abbrev pub IsTelling : Links → EndId → ℕ → ℕ → ℕ → Type 0
+IsTelling w e k hops h = IsGoingTo w k (IsKnownOf e hops) ⊎ IsOnTrack w (opposite e) h (IsMovedTo (opposite e) k hops)
 
 -- an end with a trail is told that its opposite knows where it is, or tells it
 abbrev pub IsAnnounced : Links → (EndId → End) → EndId → ℕ → HereView → Type 0
 IsAnnounced w t e k v =
     (t e).noticed ≡ false → v.value.trail ≢ 0 → is_living (t (opposite e)).place ≡ true
-    → IsGoingTo w k (IsKnownOf e v.value.hops)
-    ⊎ IsOnTrack w (opposite e) v.value.hint.1 (IsMovedTo (opposite e) k v.value.hops)
+    → IsTelling w e k v.value.hops v.value.hint.1
 
 -- ---- all of it
 

@@ -1,0 +1,3 @@
+pub mod Make
+pub mod Apart
+pub mod Notice
