@@ -33,7 +33,7 @@ use Rattle.theorem_meaning.proofs.Goes.{Goes}
 use Rattle.theorem_meaning.specs.Invariant.{Invariant}
 use Rattle.theorem_meaning.specs.StandsFor.{IsOwnedHere, IsProcessOf, home_of, service_phase}
 use Rattle.theorem_call_end.proofs.Destroyed.{destroys-one}
-use Rattle.theorem_call_end.proofs.Ends.{ends-goes}
+use Rattle.theorem_call_end.proofs.Ends.{Destroys, ends-goes}
 
 module _ (i : ℕ) (w : World) (s : State) (k : ℕ) (p : Pid) (mine : List EndId) (is : Invariant i w s) (below : p.0 < length s.homes) (at : home_of s p ≡ k) (running : ((w.kernel k).process p.0).phase ≡ kernel_phase.Running)
     (e : EndId) (v : HereView) (here : (w.kernel k).table e ≡ entry.Here v) (own : v.holder ≡ holder.Owner p) where
@@ -50,7 +50,7 @@ module _ (i : ℕ) (w : World) (s : State) (k : ℕ) (p : Pid) (mine : List EndI
   process-is : IsProcessOf ((w.kernel k).process p.0) (s.process p.0)
   process-is = subst (λ j. IsProcessOf ((w.kernel j).process p.0) (s.process p.0)) at (is.stands.processes p below)
 
-  runs : (s.process p.0).phase ≡ phase.Running
+  pub runs : (s.process p.0).phase ≡ phase.Running
   runs = process-is.phase ∙ ap service_phase running
 
   owned-here-is : IsOwnedHere p (t e)
@@ -70,10 +70,10 @@ module _ (i : ℕ) (w : World) (s : State) (k : ℕ) (p : Pid) (mine : List EndI
         after = ap (λ z. record s { ends = z }) (destroys-one p e s.ends (ap (is_owned_by p) placed ∙ eq-eqb p.0 p.0 refl));
       }
 
-  pub destroyed-goes : refusal p t (w.kernel k).made mine (has_report (process_of p (w.kernel k))) (call.Destroy e) ≡ None → Goes i w s (Calls k p (call.Destroy e) mine)
-  destroyed-goes granted =
-      ends-goes i w s k p is below at runs (call.Destroy e) mine (e ∷ []) effect s.process (step.Destroy e)
-      (record {
+  -- it destroys that end, with what its waiting message encloses
+  pub destroy-does : refusal p t (w.kernel k).made mine (has_report (process_of p (w.kernel k))) (call.Destroy e) ≡ None → Destroys w s k p (call.Destroy e) mine (e ∷ []) effect s.process (step.Destroy e)
+  destroy-does granted =
+      record {
         granted = granted;
         with_ends = tt;
         effect = effect-is;
@@ -90,11 +90,14 @@ module _ (i : ℕ) (w : World) (s : State) (k : ℕ) (p : Pid) (mine : List EndI
         waiting = is.waiting;
         steps = refl;
         stepped = stepped;
-      })
+      }
     where
       only : (f : EndId) (b : Bool) → end_eq f e ≡ b → (b || false) ≡ true → IsOwnedHere p (t f)
       only f true same has = subst (λ z. IsOwnedHere p (t z)) (sym (end_eq-same f e same)) owned-here-is
       only f false apart has = absurd (true≢false (sym has))
+
+  pub destroyed-goes : refusal p t (w.kernel k).made mine (has_report (process_of p (w.kernel k))) (call.Destroy e) ≡ None → Goes i w s (Calls k p (call.Destroy e) mine)
+  destroyed-goes granted = ends-goes i w s k p is below at runs (call.Destroy e) mine (e ∷ []) effect s.process (step.Destroy e) (destroy-does granted)
 
 -- the service goes with a Destroy that its kernel does not refuse
 pub destroy-goes : (g : Setting) (i : ℕ) (w : World) (s : State) (k : ℕ) (p : Pid) (on : EndId) (mine : List EndId) → Invariant i w s → s.homes ≡ g.homes → IsAllowed g w (Calls k p (call.Destroy on) mine)

@@ -32,7 +32,7 @@ use Rattle.theorem_meaning.proofs.Goes.{Goes}
 use Rattle.theorem_meaning.specs.Invariant.{Invariant}
 use Rattle.theorem_meaning.specs.StandsFor.{IsOwnedHere, IsProcessOf, home_of, service_phase}
 use Rattle.theorem_ends_destroyed.proofs.Facts.{among-same}
-use Rattle.theorem_call_end.proofs.Ends.{ends-goes}
+use Rattle.theorem_call_end.proofs.Ends.{Destroys, ends-goes}
 
 -- an end that p owns is here with p as its owner
 owned-some : (p : Pid) (y : Entry) → IsSome (owned p y) → IsOwnedHere p y
@@ -64,7 +64,7 @@ module _ (i : ℕ) (w : World) (s : State) (k : ℕ) (p : Pid) (mine : List EndI
   abbrev after : State
   after = record s { ends = destroys_each p mine s.ends; process = g }
 
-  runs : (s.process p.0).phase ≡ phase.Running
+  pub runs : (s.process p.0).phase ≡ phase.Running
   runs = (subst (λ j. IsProcessOf ((w.kernel j).process p.0) (s.process p.0)) at (is.stands.processes p below)).phase ∙ ap service_phase running
 
   -- ---- processes
@@ -110,10 +110,10 @@ module _ (i : ℕ) (w : World) (s : State) (k : ℕ) (p : Pid) (mine : List EndI
   stepped : IsServiceStep s (step.Exit p) after
   stepped = record { allowed = ap is_running runs; after = record { mine = mine; all = all-mine; after = refl } }
 
-  pub exits : refusal p t (w.kernel k).made mine (has_report (process_of p (w.kernel k))) call.Exit ≡ None → Goes i w s (Calls k p call.Exit mine)
-  exits granted =
-      ends-goes i w s k p is below at runs call.Exit mine mine effect g (step.Exit p)
-      (record {
+  -- it destroys the ends of the process, each with what its waiting message encloses
+  pub exit-does : refusal p t (w.kernel k).made mine (has_report (process_of p (w.kernel k))) call.Exit ≡ None → Destroys w s k p call.Exit mine mine effect g (step.Exit p)
+  exit-does granted =
+      record {
         granted = granted;
         with_ends = ends;
         effect = refl;
@@ -130,7 +130,10 @@ module _ (i : ℕ) (w : World) (s : State) (k : ℕ) (p : Pid) (mine : List EndI
         waiting = waits;
         steps = refl;
         stepped = stepped;
-      })
+      }
+
+  pub exits : refusal p t (w.kernel k).made mine (has_report (process_of p (w.kernel k))) call.Exit ≡ None → Goes i w s (Calls k p call.Exit mine)
+  exits granted = ends-goes i w s k p is below at runs call.Exit mine mine effect g (step.Exit p) (exit-does granted)
 
 -- the service goes with an Exit that its kernel does not refuse; mine are the ends that p owns, in order
 pub exit-goes : (g : Setting) (i : ℕ) (w : World) (s : State) (k : ℕ) (p : Pid) (mine : List EndId) → Invariant i w s → s.homes ≡ g.homes → IsAllowed g w (Calls k p call.Exit mine)
