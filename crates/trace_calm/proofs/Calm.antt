@@ -1,9 +1,8 @@
 -- A calm event keeps all that is true of the traces of ends.
-use Rattle.std.proofs.Common.{◌≡◌, ◌≢◌, ℕ, ◌<◌, ◌≤◌, ◌⊎◌, inl, inr, Bool, true, false, true≢false, ◌&&◌, if◌then◌else◌, Some, None, List, [], Contains, IfSome, refl, sym, ap, subst, ◌∙◌, arith}
+use Rattle.std.proofs.Common.{◌≡◌, ◌≢◌, ℕ, ◌<◌, ◌≤◌, ◌⊎◌, inl, inr, true, false, true≢false, ◌&&◌, if◌then◌else◌, Some, None, [], Contains, IfSome, refl, sym, ap, subst, ◌∙◌, arith}
 use Rattle.charlotte_calls.specs.Names.{opposite}
 use Rattle.charlotte_calls.specs.declared.names.EndId.{EndId}
 use Rattle.charlotte_packets.specs.declared.picture.MovingPicture.{MovingPicture}
-use Rattle.charlotte_packets.specs.declared.picture.Picture.{Picture}
 use Rattle.charlotte_packets.specs.declared.picture.PictureWhat.{PictureWhat}
 use Rattle.charlotte_packets.specs.declared.picture.PictureWhat.TheVariants as packet
 use Rattle.end_table.specs.Table.{IsHereAnd}
@@ -30,7 +29,7 @@ use Rattle.trace_events.proofs.Open.{open-so, opposite-free}
 use Rattle.trace_events.specs.Had.{HasSome}
 use Rattle.trace_events.specs.Leading.{IsLeading}
 use Rattle.trace_meaning.proofs.Chains.{chain-here}
-use Rattle.trace_meaning.specs.Traces.{AreTraced, IsAnnounced, IsKnownRight, IsLeftRight, IsMarkRight, IsMet, IsMourned, IsReached, IsSeenRight, IsTelling, IsToForget, IsToldOf, IsTraceRight, IsTraced, IsTrailed}
+use Rattle.trace_meaning.specs.Traces.{AreTraced, IsAnnounced, IsKnownRight, IsLeftRight, IsMarkRight, IsMet, IsMourned, IsReached, IsSeenRight, IsToForget, IsToldOf, IsTraceRight, IsTrailed}
 use Rattle.trace_meaning.specs.Words.{HasChain, HasMark, IsBackTo, IsForgetOf, IsGoingTo, IsGoneFrom, IsGoneSeen, IsKnownOf, IsOnTrack, IsParcelTo, IsSought, LeadsOn}
 
 -- ---- kinds of packets

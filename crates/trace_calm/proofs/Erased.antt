@@ -1,6 +1,6 @@
 -- A mark is erased where a goneseen or a gone comes to it, which keeps all that is true of the traces of ends: the opposite is sought no more, or
 -- its own mark is told that the death was seen.
-use Rattle.std.proofs.Common.{◌≡◌, ◌≢◌, ◌⊎◌, inl, inr, ℕ, ◌≤◌, Bool, true, false, true≢false, nat_eq, ◌&&◌, if◌then◌else◌, List, [], ◌∷◌, ◌++◌, length, ◌<◌, Contains, refl, sym, ap, subst, ◌∙◌}
+use Rattle.std.proofs.Common.{◌≡◌, ◌≢◌, ◌⊎◌, inl, inr, ℕ, ◌≤◌, Bool, true, false, nat_eq, if◌then◌else◌, List, [], ◌∷◌, ◌++◌, length, ◌<◌, Contains, refl, sym, ap, subst, ◌∙◌}
 use Rattle.std.proofs.lemmas.Bool.Decides.{eqb_tells}
 use Rattle.std.proofs.lemmas.List.Elements.{All-contains, Contains-append_left, Contains-append_right}
 use Rattle.std.specs.Int.{bit_at}
@@ -11,7 +11,7 @@ use Rattle.charlotte_packets.specs.declared.picture.MovingPicture.{MovingPicture
 use Rattle.charlotte_packets.specs.declared.picture.Picture.{Picture}
 use Rattle.charlotte_packets.specs.declared.picture.PictureWhat.{PictureWhat}
 use Rattle.charlotte_packets.specs.declared.picture.PictureWhat.TheVariants as packet
-use Rattle.end_table.proofs.EndEq.{end_eq-refl, end_eq-same}
+use Rattle.end_table.proofs.EndEq.{end_eq-same}
 use Rattle.end_table.specs.Place.{end_eq}
 use Rattle.end_table.specs.Table.{IsOfEnd}
 use Rattle.end_table.specs.declared.entry.Entry.{Entry}
@@ -24,7 +24,6 @@ use Rattle.kernel_effects.specs.Rows.{gone_effect, goneseen_effect, row_effect}
 use Rattle.kernel_sound.specs.Sound.{addressee}
 use Rattle.kernel_world.specs.World.{Takes, World, happens}
 use Rattle.service_lawful.specs.Consistent.{is_open}
-use Rattle.service_step.specs.Ends.{is_living}
 use Rattle.service_step.specs.State.{State}
 use Rattle.service_step.specs.declared.state.End.{End}
 use Rattle.service_step.specs.declared.state.Place.TheVariants as place
@@ -50,7 +49,7 @@ use Rattle.trace_calm.proofs.Calm.{calm-traced}
 use Rattle.trace_calm.proofs.Known.{forget-there}
 use Rattle.trace_calm.proofs.Marked.{fields-mark, kernel-low}
 use Rattle.trace_calm.proofs.Steady.{steadily-calmly}
-use Rattle.trace_calm.specs.Calm.{AreAsOpen, IsCalm, IsCalmly, IsClosing, IsErased, IsOfDeath, IsPassedOn, IsTrueAsk}
+use Rattle.trace_calm.specs.Calm.{IsCalm, IsCalmly, IsClosing, IsErased, IsOfDeath, IsPassedOn, IsTrueAsk}
 use Rattle.trace_events.proofs.One.{bare-unbrought, is-taken, put-had, put-has, put-kept, put-or, put-stays, put-was}
 use Rattle.trace_events.proofs.Open.{destroyed-closed}
 use Rattle.trace_events.proofs.Tracks.{going-sent}

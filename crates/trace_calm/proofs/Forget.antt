@@ -1,6 +1,6 @@
 -- A forget erases a forwarding entry, and keeps all that is true of the traces of ends: no chain from what was heard needs the entry.
-use Rattle.std.proofs.Common.{◌≡◌, ◌≢◌, ◌⊎◌, inl, inr, ℕ, ◌≤◌, Bool, true, false, nat_eq, nat_le, if◌then◌else◌, List, [], ◌∷◌, length, ◌<◌, Contains, Some, None, refl, sym, ap, subst, ◌∙◌, true≢false, arith}
-use Rattle.std.proofs.lemmas.Bool.Decides.{eqb_tells, leb_tells}
+use Rattle.std.proofs.Common.{◌≡◌, ◌≢◌, ◌⊎◌, inl, inr, ℕ, ◌≤◌, true, false, nat_le, List, [], ◌∷◌, length, ◌<◌, Contains, Some, None, refl, sym, ap, subst, ◌∙◌, true≢false, arith}
+use Rattle.std.proofs.lemmas.Bool.Decides.{leb_tells}
 use Rattle.charlotte_calls.specs.Names.{opposite}
 use Rattle.charlotte_calls.specs.declared.names.EndId.{EndId}
 use Rattle.charlotte_calls.specs.declared.names.Pid.{Pid}
@@ -8,8 +8,6 @@ use Rattle.charlotte_packets.specs.declared.picture.MovingPicture.{MovingPicture
 use Rattle.charlotte_packets.specs.declared.picture.Picture.{Picture}
 use Rattle.charlotte_packets.specs.declared.picture.PictureWhat.{PictureWhat}
 use Rattle.charlotte_packets.specs.declared.picture.PictureWhat.TheVariants as packet
-use Rattle.end_table.proofs.EndEq.{end_eq-refl, end_eq-same}
-use Rattle.end_table.specs.Place.{end_eq}
 use Rattle.end_table.specs.declared.entry.Entry.{Entry}
 use Rattle.end_table.specs.declared.entry.Entry.TheVariants as entry
 use Rattle.end_table.specs.declared.entry.HereView.{HereView}
@@ -33,7 +31,7 @@ use Rattle.trace_calm.proofs.Calls.{steadily-same}
 use Rattle.trace_calm.proofs.Calm.{calm-traced}
 use Rattle.trace_calm.proofs.Steady.{steadily-calmly}
 use Rattle.trace_calm.proofs.Takings.{chosen}
-use Rattle.trace_calm.specs.Calm.{AreAsOpen, IsCalm, IsCalmly}
+use Rattle.trace_calm.specs.Calm.{IsCalm, IsCalmly}
 use Rattle.trace_events.proofs.One.{is-taken as was-taken, put-had, put-has, put-or, put-stays}
 use Rattle.trace_meaning.specs.Traces.{AreTraced, IsTrailed}
 use Rattle.trace_meaning.specs.Words.{HasMark, IsForgetOf, IsGoneFrom, IsGoneSeen, IsKnownOf, IsMovedTo, IsSought}

@@ -1,10 +1,9 @@
 -- A gone at an end that knows of the death already: the mark is told that the death was seen, and all that is true of the traces of ends stays.
-use Rattle.std.proofs.Common.{◌≡◌, ◌⊎◌, inl, inr, ℕ, Bool, true, false, ◌&&◌, if◌then◌else◌, List, [], ◌∷◌, length, Contains, refl, sym, ap, subst, ◌∙◌, true≢false}
+use Rattle.std.proofs.Common.{◌≡◌, inl, inr, ℕ, true, List, [], ◌∷◌, length, Contains, refl, sym, ap, subst, ◌∙◌, true≢false}
 use Rattle.std.proofs.lemmas.List.Elements.{All-contains}
 use Rattle.charlotte_calls.specs.Names.{opposite}
 use Rattle.charlotte_calls.specs.declared.names.EndId.{EndId}
 use Rattle.charlotte_calls.specs.declared.names.Pid.{Pid}
-use Rattle.charlotte_packets.specs.declared.picture.MovingPicture.{MovingPicture}
 use Rattle.charlotte_packets.specs.declared.picture.Picture.{Picture}
 use Rattle.charlotte_packets.specs.declared.picture.PictureWhat.{PictureWhat}
 use Rattle.charlotte_packets.specs.declared.picture.PictureWhat.TheVariants as packet
@@ -18,7 +17,6 @@ use Rattle.kernel_world.specs.World.{Takes, World, happens}
 use Rattle.service_lawful.specs.Consistent.{is_open}
 use Rattle.service_step.specs.Ends.{is_living}
 use Rattle.service_step.specs.State.{State}
-use Rattle.service_step.specs.declared.state.End.{End}
 use Rattle.service_step.specs.declared.state.Place.TheVariants as place
 use Rattle.theorem_effects.proofs.Allowed.{takes-allowed}
 use Rattle.theorem_effects.proofs.Aside.{entry-same, fields-same}
@@ -30,14 +28,14 @@ use Rattle.theorem_meaning.proofs.Ends.{opposite-twice}
 use Rattle.theorem_meaning.proofs.Plain.{view-same}
 use Rattle.theorem_meaning.specs.Fields.{At, value_of}
 use Rattle.theorem_meaning.specs.Invariant.{Invariant, IsPacketRight}
-use Rattle.theorem_meaning.specs.Packets.{Links, links_of, values_of}
+use Rattle.theorem_meaning.specs.Packets.{Links, links_of}
 use Rattle.theorem_meaning.specs.StandsFor.{entry_at}
 use Rattle.theorem_take_silent.proofs.Places.{here-living}
 use Rattle.trace_calm.proofs.Calls.{steadily-same}
 use Rattle.trace_calm.proofs.Calm.{calm-traced}
 use Rattle.trace_calm.proofs.Steady.{steadily-calmly}
 use Rattle.trace_calm.proofs.Takings.{chosen}
-use Rattle.trace_calm.specs.Calm.{AreAsOpen, IsCalm, IsCalmly}
+use Rattle.trace_calm.specs.Calm.{IsCalm, IsCalmly}
 use Rattle.trace_events.proofs.One.{bare-unbrought, is-taken}
 use Rattle.trace_events.proofs.Open.{noticed-closed}
 use Rattle.trace_events.proofs.Tracks.{going-sent}

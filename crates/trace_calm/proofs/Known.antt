@@ -1,9 +1,9 @@
 -- A known clears the trail of its end, whose kernels are told to forget, and keeps all that is true of the traces of ends.
-use Rattle.std.proofs.Common.{◌≡◌, ◌≢◌, ◌⊎◌, inl, inr, ℕ, zero, suc, ◌<◌, ◌≤◌, Bool, true, false, nat_eq, nat_lt, ◌&&◌, not, if◌then◌else◌, List, [], ◌∷◌, ◌++◌, length, Contains, Some, None, refl, sym, ap, subst, ◌∙◌, true≢false, eq-eqb, ltb-false, ltb-true, arith}
+use Rattle.std.proofs.Common.{◌≡◌, ◌≢◌, ◌⊎◌, inl, inr, ℕ, zero, suc, ◌<◌, ◌≤◌, Bool, true, false, nat_eq, ◌&&◌, not, if◌then◌else◌, List, [], ◌∷◌, ◌++◌, length, Contains, refl, sym, ap, subst, ◌∙◌, true≢false, eq-eqb, arith}
 use Rattle.std.proofs.lemmas.Bool.Decides.{eqb_tells}
 use Rattle.std.proofs.lemmas.List.Elements.{Contains-append_left, Contains-append_right}
 use Rattle.std.specs.Int.{bit_at}
-use Rattle.std.specs.List.{AllByRecursion, flat_map}
+use Rattle.std.specs.List.{flat_map}
 use Rattle.charlotte_calls.specs.Names.{opposite}
 use Rattle.charlotte_calls.specs.declared.names.EndId.{EndId}
 use Rattle.charlotte_calls.specs.declared.names.Pid.{Pid}
@@ -44,7 +44,7 @@ use Rattle.trace_calm.proofs.Calm.{calm-traced}
 use Rattle.trace_calm.proofs.Marked.{kernel-low}
 use Rattle.trace_calm.proofs.Steady.{steadily-calmly}
 use Rattle.trace_calm.proofs.Takings.{chosen}
-use Rattle.trace_calm.specs.Calm.{AreAsOpen, IsCalm, IsCalmly, IsClosing, IsPassedOn, IsTrueAsk}
+use Rattle.trace_calm.specs.Calm.{IsCalm, IsCalmly, IsClosing, IsPassedOn, IsTrueAsk}
 use Rattle.trace_events.proofs.One.{is-taken as was-taken, put-had, put-has, put-or, put-stays, put-was}
 use Rattle.trace_events.proofs.Tracks.{going-sent}
 use Rattle.trace_meaning.specs.Traces.{AreTraced, IsToForget, IsTrailed}

@@ -1,5 +1,5 @@
 -- Packets that are dropped, or passed on where their end left, keep all that is true of the traces of ends.
-use Rattle.std.proofs.Common.{◌≡◌, ◌≢◌, ◌⊎◌, inl, inr, ℕ, zero, suc, ◌<◌, ◌≤◌, Bool, true, false, nat_eq, nat_le, ◌&&◌, not, if◌then◌else◌, List, [], ◌∷◌, length, Contains, Option, Some, None, refl, sym, ap, subst, ◌∙◌, eq-eqb, true≢false, arith}
+use Rattle.std.proofs.Common.{◌≡◌, ◌≢◌, ◌⊎◌, inl, inr, ℕ, zero, suc, ◌<◌, ◌≤◌, Bool, true, false, nat_eq, nat_le, ◌&&◌, not, if◌then◌else◌, List, [], ◌∷◌, length, Contains, Some, refl, sym, ap, subst, ◌∙◌, eq-eqb, true≢false, arith}
 use Rattle.std.proofs.lemmas.Bool.Decides.{eqb_tells, leb_tells}
 use Rattle.charlotte_calls.specs.Names.{opposite}
 use Rattle.charlotte_calls.specs.declared.names.EndId.{EndId}
@@ -15,9 +15,8 @@ use Rattle.end_table.specs.declared.entry.HereView.{HereView}
 use Rattle.end_table.specs.declared.entry.Inward.{Inward}
 use Rattle.end_table.specs.declared.entry.Inward.TheVariants as inward
 use Rattle.kernel_effects.specs.Effect.{Effect, nothing, sent}
-use Rattle.kernel_effects.specs.Rows.{forget_effect, gone_effect, goneseen_effect, known_effect, moved_effect, row_effect, taken_effect, unserved, unwant_effect, unwanted_effect, unwanted_here_effect, want_effect}
+use Rattle.kernel_effects.specs.Rows.{forget_effect, gone_effect, goneseen_effect, known_effect, moved_effect, row_effect, taken_effect, unwant_effect, unwanted_effect, unwanted_here_effect, want_effect}
 use Rattle.kernel_sound.specs.Sound.{addressee}
-use Rattle.kernel_step.specs.Rows.{awaits}
 use Rattle.kernel_world.specs.World.{Takes, World, happens}
 use Rattle.service_step.specs.Ends.{is_living}
 use Rattle.service_step.specs.State.{State}
@@ -38,7 +37,7 @@ use Rattle.theorem_take_silent.proofs.Places.{here-living}
 use Rattle.trace_calm.proofs.Calls.{steadily-same}
 use Rattle.trace_calm.proofs.Calm.{calm-traced}
 use Rattle.trace_calm.proofs.Steady.{steady-calm}
-use Rattle.trace_calm.specs.Calm.{AreAsOpen, IsCalm, IsDropped, IsNewer, IsNoMark, IsNone, IsNotLeft, IsNotWithdrawn, IsPassable, IsSteadily}
+use Rattle.trace_calm.specs.Calm.{AreAsOpen, IsCalm, IsDropped, IsNewer, IsNoMark, IsNone, IsNotWithdrawn, IsPassable, IsSteadily}
 use Rattle.trace_calm.specs.Steady.{IsSteady}
 use Rattle.trace_events.proofs.Tracks.{track-behind, track-sent}
 use Rattle.trace_meaning.proofs.Chains.{chain-fewer}

@@ -1,5 +1,5 @@
 -- A Destroy and an Exit keep all that is true of the traces of ends.
-use Rattle.std.proofs.Common.{◌≡◌, ℕ, ◌<◌, Bool, true, false, if◌then◌else◌, List, [], ◌∷◌, length, Contains, None, refl, sym, ap, subst, ◌∙◌}
+use Rattle.std.proofs.Common.{◌≡◌, ℕ, ◌<◌, Bool, true, false, if◌then◌else◌, List, [], ◌∷◌, length, Contains, None, refl, sym, subst, ◌∙◌}
 use Rattle.std.specs.List.{AllByRecursion, list_any}
 use Rattle.charlotte_calls.specs.Names.{opposite}
 use Rattle.charlotte_calls.specs.declared.calls.Call.{Call}
@@ -41,7 +41,7 @@ use Rattle.theorem_effects.specs.Sums.{AllSent}
 use Rattle.theorem_ends_destroyed.proofs.Facts.{among-same}
 use Rattle.theorem_meaning.specs.Invariant.{Invariant}
 use Rattle.theorem_meaning.specs.Packets.{Links, links_of}
-use Rattle.theorem_meaning.specs.StandsFor.{entry_at, home_of}
+use Rattle.theorem_meaning.specs.StandsFor.{home_of}
 use Rattle.trace_calm.proofs.Known.{contains-flat_map}
 use Rattle.trace_ending.proofs.Ending.{ending-traced}
 use Rattle.trace_ending.specs.Telling.{AreTold, IsGoneAt}

@@ -1,6 +1,6 @@
 -- Ends that are here are destroyed, which keeps all that is true of the traces of ends: a chain that led to an end leads to its mark, and the gone that
 -- is sent is on the track of the opposite.
-use Rattle.std.proofs.Common.{◌≡◌, ◌≢◌, ◌⊎◌, inl, inr, ℕ, ◌+◌, ◌<◌, ◌≤◌, Bool, true, false, true≢false, nat_eq, ◌&&◌, if◌then◌else◌, IfSome, Option, Some, None, [], length, Contains, refl, sym, ap, subst, ◌∙◌, arith}
+use Rattle.std.proofs.Common.{◌≡◌, ◌≢◌, ◌⊎◌, inl, inr, ℕ, ◌+◌, ◌≤◌, Bool, true, false, true≢false, nat_eq, ◌&&◌, if◌then◌else◌, Some, None, length, Contains, refl, sym, ap, subst, ◌∙◌, arith}
 use Rattle.std.proofs.lemmas.Bool.Decides.{eqb_tells}
 use Rattle.std.proofs.lemmas.List.Elements.{All-contains}
 use Rattle.charlotte_calls.specs.Names.{opposite}
@@ -25,11 +25,11 @@ use Rattle.theorem_effects.proofs.Packets.{each-after}
 use Rattle.theorem_effects.specs.Change.{Change, Changes}
 use Rattle.theorem_effects.specs.Sums.{sum_taken}
 use Rattle.theorem_effects.specs.Under.{IsSent, IsTaken}
-use Rattle.theorem_ends_destroyed.proofs.Facts.{fields-was, heard-was, living-was, noticed-same, open-living, open-was, other-entry, packet-was, place-ended, place-other, unbrought, unended}
-use Rattle.theorem_ends_destroyed.specs.Ending.{IsEnded, IsEnding, IsToldOf as TellsOf}
+use Rattle.theorem_ends_destroyed.proofs.Facts.{fields-was, heard-was, living-was, noticed-same, open-living, open-was, other-entry, packet-was, place-ended, place-other, unbrought}
+use Rattle.theorem_ends_destroyed.specs.Ending.{IsEnding, IsToldOf as TellsOf}
 use Rattle.theorem_meaning.proofs.Ends.{opposite-twice}
 use Rattle.theorem_meaning.proofs.Plain.{there-here}
-use Rattle.theorem_meaning.specs.Fields.{At, Flying, HasFields, IsAskedAs, IsAsking, IsUnserved, Stand, value_of}
+use Rattle.theorem_meaning.specs.Fields.{At, HasFields, IsAskedAs, IsAsking, IsUnserved, Stand, value_of}
 use Rattle.theorem_meaning.specs.Invariant.{AreRight, IsPacketRight}
 use Rattle.theorem_meaning.specs.Packets.{Each, IsUnderWay, Links, one_if, values_for, values_of}
 use Rattle.theorem_meaning.specs.StandsFor.{entry_at, standing}

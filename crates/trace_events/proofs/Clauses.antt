@@ -1,17 +1,15 @@
 -- Each clause on the traces of an end after an event, by what the event does to the end and to its opposite. w and u are the links before and
 -- after it, old and now the ends of the service.
-use Rattle.std.proofs.Common.{◌≡◌, ◌≢◌, ℕ, ◌≤◌, ◌⊎◌, inl, inr, true, false, Contains, sym, subst, ◌∙◌, arith}
+use Rattle.std.proofs.Common.{◌≡◌, ◌≢◌, ℕ, ◌≤◌, ◌⊎◌, inl, inr, true, false, Contains, sym, subst, arith}
 use Rattle.charlotte_calls.specs.Names.{opposite}
 use Rattle.charlotte_calls.specs.declared.names.EndId.{EndId}
 use Rattle.charlotte_packets.specs.declared.picture.MovingPicture.{MovingPicture}
-use Rattle.charlotte_packets.specs.declared.picture.Picture.{Picture}
 use Rattle.charlotte_packets.specs.declared.picture.PictureWhat.{PictureWhat}
 use Rattle.end_table.specs.declared.entry.HereView.{HereView}
 use Rattle.service_lawful.specs.Consistent.{is_open}
 use Rattle.service_step.specs.Ends.{is_living}
 use Rattle.service_step.specs.declared.state.End.{End}
 use Rattle.service_step.specs.declared.state.Place.TheVariants as place
-use Rattle.theorem_effects.proofs.Lists.{All-there}
 use Rattle.theorem_effects.proofs.Packets.{each-after, under_way-after, left-was}
 use Rattle.theorem_effects.specs.Change.{Change, Changes}
 use Rattle.theorem_effects.specs.Under.{IsLeft, IsSent, IsTaken}

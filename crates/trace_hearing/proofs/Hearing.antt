@@ -1,11 +1,10 @@
 -- An event by which an end may hear where its opposite is keeps all that is true of the traces of ends: where a hint rises, a chain leads on from
 -- there, so what is told anew is on its track.
-use Rattle.std.proofs.Common.{◌≡◌, ◌≢◌, ◌⊎◌, inl, inr, ℕ, ◌<◌, ◌≤◌, Bool, true, false, true≢false, ◌&&◌, if◌then◌else◌, Option, Some, None, [], Contains, IfSome, refl, sym, ap, subst, ◌∙◌, arith}
+use Rattle.std.proofs.Common.{◌≡◌, ◌≢◌, ◌⊎◌, inl, inr, ℕ, ◌<◌, ◌≤◌, true, false, true≢false, ◌&&◌, if◌then◌else◌, Some, None, [], Contains, IfSome, refl, sym, ap, subst, ◌∙◌, arith}
 use Rattle.std.specs.Int.{bit_at}
 use Rattle.charlotte_calls.specs.Names.{opposite}
 use Rattle.charlotte_calls.specs.declared.names.EndId.{EndId}
 use Rattle.charlotte_packets.specs.declared.picture.MovingPicture.{MovingPicture}
-use Rattle.charlotte_packets.specs.declared.picture.Picture.{Picture}
 use Rattle.charlotte_packets.specs.declared.picture.PictureWhat.{PictureWhat}
 use Rattle.charlotte_packets.specs.declared.picture.PictureWhat.TheVariants as packet
 use Rattle.end_table.specs.Table.{IsHereAnd}
@@ -23,7 +22,7 @@ use Rattle.theorem_effects.specs.Change.{Change, Changes}
 use Rattle.theorem_effects.specs.Under.{IsLeft, IsSent, IsTaken}
 use Rattle.theorem_meaning.proofs.Ends.{opposite-twice}
 use Rattle.theorem_meaning.proofs.Plain.{there-here}
-use Rattle.theorem_meaning.specs.Fields.{At, Flying, HasFields, IsHeard, IsNews, IsUnserved, Stand, value_of}
+use Rattle.theorem_meaning.specs.Fields.{At, Flying, HasFields, IsHeard, IsNews, Stand, value_of}
 use Rattle.theorem_meaning.specs.Packets.{IsUnderWay, Links, values_of}
 use Rattle.theorem_meaning.specs.StandsFor.{entry_at}
 use Rattle.theorem_take_silent.proofs.Alike.{some-same}
@@ -32,13 +31,13 @@ use Rattle.trace_calm.proofs.Calm.{asks-at}
 use Rattle.trace_calm.specs.Calm.{AreAsOpen}
 use Rattle.trace_events.proofs.Clauses.{announced-on, known-on, left-on, mark-on, reached-on, seen-on, under_way-or}
 use Rattle.trace_events.proofs.Open.{open-so, opposite-free}
-use Rattle.trace_events.proofs.Tracks.{chain-on, going-after, track-sent}
+use Rattle.trace_events.proofs.Tracks.{chain-on, track-sent}
 use Rattle.trace_events.specs.Had.{HasSome}
 use Rattle.trace_events.specs.Leading.{IsLeading}
 use Rattle.trace_hearing.specs.Hearing.{IsHearing, IsMildly, IsRaised, IsTaught, IsTrueNews}
 use Rattle.trace_meaning.proofs.Chains.{chain-here, chain-mark}
 use Rattle.trace_meaning.specs.Traces.{AreTraced, IsAnnounced, IsKnownRight, IsLeftRight, IsMarkRight, IsMet, IsMourned, IsReached, IsSeenRight, IsTelling, IsToldOf, IsTraceRight, IsTrailed}
-use Rattle.trace_meaning.specs.Words.{HasChain, HasMark, IsBackTo, IsForgetOf, IsGoingTo, IsGoneFrom, IsGoneSeen, IsKnownOf, IsMovedTo, IsOnTrack, IsParcelTo, IsSought, LeadsOn}
+use Rattle.trace_meaning.specs.Words.{HasChain, HasMark, IsBackTo, IsForgetOf, IsGoneFrom, IsGoneSeen, IsKnownOf, IsMovedTo, IsParcelTo, IsSought, LeadsOn}
 
 -- ---- kinds of packets
 

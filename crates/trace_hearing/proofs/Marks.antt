@@ -1,5 +1,5 @@
 -- A moved that comes to a mark keeps all that is true of the traces of ends: the mark hears where its opposite is, and a gone goes there.
-use Rattle.std.proofs.Common.{◌≡◌, ◌⊎◌, inl, inr, ℕ, ◌<◌, Bool, true, false, true≢false, nat_lt, if◌then◌else◌, List, [], ◌∷◌, length, Contains, Some, refl, sym, ap, subst, ◌∙◌, ltb-true}
+use Rattle.std.proofs.Common.{◌≡◌, ◌⊎◌, inl, inr, ℕ, Bool, true, false, true≢false, if◌then◌else◌, List, [], ◌∷◌, length, Contains, Some, refl, sym, ap, subst, ◌∙◌, ltb-true}
 use Rattle.charlotte_calls.specs.Names.{opposite}
 use Rattle.charlotte_calls.specs.declared.names.EndId.{EndId}
 use Rattle.charlotte_calls.specs.declared.names.Pid.{Pid}
@@ -27,9 +27,9 @@ use Rattle.theorem_effects.specs.Change.{Change, Changes, Happens}
 use Rattle.theorem_effects.specs.Events.{taking}
 use Rattle.theorem_effects.specs.Under.{IsSent, IsTaken}
 use Rattle.theorem_meaning.proofs.Ends.{opposite-twice}
-use Rattle.theorem_meaning.specs.Fields.{At, HasFields, IsAsking, IsNews, IsUnserved, Stand, value_of}
+use Rattle.theorem_meaning.specs.Fields.{HasFields, IsAsking, IsNews, IsUnserved, Stand, value_of}
 use Rattle.theorem_meaning.specs.Invariant.{Invariant}
-use Rattle.theorem_meaning.specs.Packets.{IsUnderWay, Links, links_of, values_of}
+use Rattle.theorem_meaning.specs.Packets.{IsUnderWay, Links, links_of}
 use Rattle.theorem_meaning.specs.StandsFor.{entry_at}
 use Rattle.theorem_take_silent.proofs.Alike.{some-same}
 use Rattle.theorem_take_silent.proofs.Places.{here-living}

@@ -1,5 +1,5 @@
 -- Events by which an end may hear where its opposite is. No end moves, is made or destroyed, nothing is erased, and no trail is cleared.
-use Rattle.std.specs.Prelude.{◌≡◌, ℕ, ◌<◌, ◌≤◌, ◌⊎◌, true, false, [], Contains, IfSome, Some}
+use Rattle.std.specs.Prelude.{◌≡◌, ℕ, ◌<◌, ◌≤◌, ◌⊎◌, true, [], Contains, IfSome, Some}
 use Rattle.charlotte_calls.specs.Names.{opposite}
 use Rattle.charlotte_calls.specs.declared.names.EndId.{EndId}
 use Rattle.charlotte_packets.specs.declared.picture.MovingPicture.{MovingPicture}
@@ -20,7 +20,7 @@ use Rattle.theorem_meaning.specs.Packets.{Links, values_of}
 use Rattle.theorem_meaning.specs.StandsFor.{entry_at}
 use Rattle.theorem_take_silent.specs.Quiet.{tells_place}
 use Rattle.trace_events.specs.Had.{HasSome}
-use Rattle.trace_meaning.specs.Words.{HasChain, IsGoingTo, IsGoneFrom, IsKnownOf, IsMovedTo, IsSought}
+use Rattle.trace_meaning.specs.Words.{HasChain, IsGoingTo, IsGoneFrom, IsKnownOf, IsMovedTo}
 
 -- a value stays but for counts, for what was heard, and for what is asked of it
 abbrev pub IsTaught : MovingPicture → MovingPicture → Type 0

@@ -11,7 +11,7 @@ use Rattle.charlotte_packets.specs.declared.picture.MovingPicture.{MovingPicture
 use Rattle.charlotte_packets.specs.declared.picture.Picture.{Picture}
 use Rattle.charlotte_packets.specs.declared.picture.PictureWhat.{PictureWhat}
 use Rattle.charlotte_packets.specs.declared.picture.PictureWhat.TheVariants as packet
-use Rattle.end_table.proofs.EndEq.{end_eq-refl, end_eq-same}
+use Rattle.end_table.proofs.EndEq.{end_eq-same}
 use Rattle.end_table.specs.Entries.{is_news, learned}
 use Rattle.end_table.specs.Place.{end_eq}
 use Rattle.end_table.specs.Table.{IsHereAnd, IsOfEnd}
@@ -34,15 +34,14 @@ use Rattle.theorem_effects.proofs.Packets.{left-was, taken-was, under_way-after}
 use Rattle.theorem_effects.specs.Change.{Change, Changes, Happens}
 use Rattle.theorem_effects.specs.Events.{taking}
 use Rattle.theorem_effects.specs.Sums.{AllSent}
-use Rattle.theorem_effects.specs.Under.{IsLeft, IsSent, IsTaken}
-use Rattle.theorem_meaning.proofs.Ends.{opposite-apart, opposite-twice}
-use Rattle.theorem_meaning.proofs.Plain.{view-same}
+use Rattle.theorem_effects.specs.Under.{IsLeft, IsSent}
+use Rattle.theorem_meaning.proofs.Ends.{opposite-twice}
 use Rattle.theorem_meaning.specs.Fields.{At, Flying, HasFields, IsAsking, IsNews, IsUnserved, Stand, value_of}
 use Rattle.theorem_meaning.specs.Invariant.{Invariant}
 use Rattle.theorem_meaning.specs.Packets.{IsUnderWay, Links, links_of, values_of}
 use Rattle.theorem_meaning.specs.StandsFor.{entry_at}
 use Rattle.theorem_take_silent.proofs.Alike.{some-same}
-use Rattle.theorem_take_silent.proofs.Places.{fields-here, here-kernel, here-living}
+use Rattle.theorem_take_silent.proofs.Places.{fields-here, here-living}
 use Rattle.theorem_take_silent.specs.Quiet.{tells_place}
 use Rattle.trace_calm.proofs.Calls.{steadily-same, told-calm}
 use Rattle.trace_calm.proofs.Steady.{here-so}
@@ -56,7 +55,7 @@ use Rattle.trace_hearing.proofs.Marks.{mildly-same}
 use Rattle.trace_hearing.specs.Hearing.{IsHearing, IsMildly, IsRaised, IsTaught, IsTrueNews}
 use Rattle.trace_learning.specs.Learned.{IsLearned, IsLiveOf}
 use Rattle.trace_meaning.specs.Traces.{AreTraced, IsMarkRight, IsTraceRight}
-use Rattle.trace_meaning.specs.Words.{IsGoingTo, IsGoneFrom, IsKnownOf, IsMovedTo}
+use Rattle.trace_meaning.specs.Words.{IsGoneFrom, IsKnownOf, IsMovedTo}
 
 -- ---- values
 

@@ -22,7 +22,7 @@ use Rattle.end_table.specs.declared.entry.Inward.TheVariants as inward
 use Rattle.end_table.specs.declared.entry.Outward.{Outward}
 use Rattle.end_table.specs.declared.entry.Outward.TheVariants as outward
 use Rattle.kernel_effects.proofs.Uses.{all-append}
-use Rattle.kernel_effects.specs.Actions.{learn_effect, live_packets, match_waiting_effect, moved_packets, news_packets, receive_packets}
+use Rattle.kernel_effects.specs.Actions.{learn_effect, live_packets, match_waiting_effect, moved_packets, receive_packets}
 use Rattle.kernel_effects.specs.Effect.{Effect, nothing, puts, stays}
 use Rattle.kernel_effects.specs.Rows.{asked_view, completes_effect, frees_effect, moved_effect, row_effect, unwant_effect, view_news, voided_view, voids_effect, want_effect, wants_effect}
 use Rattle.kernel_step.specs.Actions.{learned_view}

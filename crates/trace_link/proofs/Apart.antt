@@ -1,5 +1,5 @@
 -- An event is taken apart: first all entries but those of one end change, and then those, while packets are taken and sent.
-use Rattle.std.proofs.Common.{◌≡◌, ℕ, Bool, true, false, nat_eq, if◌then◌else◌, None, [], ◌++◌, refl, sym, ap, ◌∙◌, append-nil, eq-eqb}
+use Rattle.std.proofs.Common.{◌≡◌, Bool, true, false, nat_eq, if◌then◌else◌, None, [], ◌++◌, refl, sym, ap, ◌∙◌, append-nil, eq-eqb}
 use Rattle.charlotte_calls.specs.declared.names.EndId.{EndId}
 use Rattle.end_table.specs.Place.{end_eq}
 use Rattle.theorem_effects.specs.Change.{Change, Changes}

@@ -6,7 +6,6 @@ use Rattle.charlotte_calls.specs.declared.calls.Call.TheVariants as call
 use Rattle.charlotte_calls.specs.declared.names.EndId.{EndId}
 use Rattle.charlotte_calls.specs.declared.names.Pid.{Pid}
 use Rattle.charlotte_packets.specs.declared.picture.MovingPicture.{MovingPicture}
-use Rattle.charlotte_packets.specs.declared.picture.Picture.{Picture}
 use Rattle.charlotte_packets.specs.declared.picture.PictureWhat.{PictureWhat}
 use Rattle.end_table.specs.declared.entry.Entry.{Entry}
 use Rattle.end_table.specs.declared.entry.Entry.TheVariants as entry
@@ -25,7 +24,7 @@ use Rattle.theorem_effects.proofs.Addressees.{news-to}
 use Rattle.theorem_effects.proofs.Allowed.{performs-allowed}
 use Rattle.theorem_effects.specs.Change.{Change, Happens}
 use Rattle.theorem_effects.specs.Events.{calling}
-use Rattle.theorem_meaning.specs.Fields.{At, HasFields, IsHeard, IsNews, Stand, value_of}
+use Rattle.theorem_meaning.specs.Fields.{At, IsNews, value_of}
 use Rattle.theorem_meaning.specs.Invariant.{Invariant}
 use Rattle.theorem_meaning.specs.Packets.{IsUnderWay, Links, links_of}
 use Rattle.theorem_meaning.specs.StandsFor.{entry_at, home_of}
@@ -33,7 +32,7 @@ use Rattle.trace_events.proofs.One.{sent-none, taken-none}
 use Rattle.trace_meaning.proofs.Chains.{chain-here}
 use Rattle.trace_meaning.proofs.Frame.{IsSameTrack, frame-traced, to-forget, to-goneseen, to-known}
 use Rattle.trace_meaning.specs.Traces.{AreTraced, IsLeftRight, IsReached, IsToForget, IsToldOf, IsTraceRight, IsTraced, IsTrailed}
-use Rattle.trace_meaning.specs.Words.{HasChain, IsForgetOf, IsGoneSeen, IsKnownOf, IsSought}
+use Rattle.trace_meaning.specs.Words.{HasChain, IsForgetOf, IsGoneSeen, IsKnownOf}
 
 zero-least : 0 ≤ 0
 zero-least = omega arith

@@ -1,6 +1,6 @@
 -- A gone at an end that did not know of the death keeps all that is true of the traces of ends: the end is sought no more, each kernel of its trail is
 -- told to forget it, and the mark is told that the death was seen.
-use Rattle.std.proofs.Common.{◌≡◌, ◌≢◌, ◌⊎◌, inl, inr, ℕ, ◌<◌, ◌≤◌, Bool, true, false, true≢false, nat_eq, if◌then◌else◌, List, [], ◌∷◌, ◌++◌, length, Contains, Some, None, refl, sym, ap, subst, ◌∙◌, arith}
+use Rattle.std.proofs.Common.{◌≡◌, ◌≢◌, ◌⊎◌, inl, inr, ℕ, ◌<◌, ◌≤◌, Bool, true, false, true≢false, nat_eq, if◌then◌else◌, List, [], ◌∷◌, ◌++◌, length, Contains, refl, sym, ap, subst, ◌∙◌, arith}
 use Rattle.std.proofs.lemmas.Bool.Decides.{eqb_tells}
 use Rattle.std.proofs.lemmas.List.Elements.{All-contains, Contains-append_left, Contains-append_right}
 use Rattle.std.specs.Int.{bit_at}
@@ -57,14 +57,14 @@ use Rattle.trace_calm.specs.Calm.{AreAsOpen, IsCounted, IsSteadily}
 use Rattle.trace_calm.specs.Steady.{IsSteady}
 use Rattle.trace_events.proofs.Aside.{aside-traced}
 use Rattle.trace_events.proofs.Clauses.{left-on, mark-on, seen-on, under_way-or}
-use Rattle.trace_events.proofs.One.{bare-unbrought, is-taken, put-had, put-has, put-or, put-was}
+use Rattle.trace_events.proofs.One.{bare-unbrought, is-taken, put-has, put-or, put-was}
 use Rattle.trace_events.proofs.Open.{destroyed-closed, noticed-closed}
 use Rattle.trace_events.proofs.Tracks.{going-sent}
 use Rattle.trace_events.specs.Had.{HasSome}
 use Rattle.trace_link.proofs.Apart.{middle, others_part, others-changes, own_part, own-changes}
 use Rattle.trace_link.specs.Closing.{IsDying}
 use Rattle.trace_meaning.specs.Traces.{AreTraced, IsLeftRight, IsMarkRight, IsMourned, IsToForget, IsTraceRight, IsTraced, IsTrailed}
-use Rattle.trace_meaning.specs.Words.{HasMark, IsBackTo, IsForgetOf, IsGoingTo, IsGoneFrom, IsGoneSeen, IsKnownOf, IsParcelTo, IsSought}
+use Rattle.trace_meaning.specs.Words.{IsForgetOf, IsGoingTo, IsGoneFrom, IsGoneSeen, IsSought}
 
 here-was : (y : Entry) (o : HereView) → IsSteadily y (entry.Here o) → (v : HereView) × (y ≡ entry.Here v)
 here-was (entry.Here v) o like = (v, refl)
