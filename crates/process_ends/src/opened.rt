@@ -145,7 +145,7 @@ impl Opened {
         }
     }
 
-    /// A request is open in a thread, in which others may be open.
+    /// A request is open in a thread, in which others may be open. More than 2^64 - 1 requests are told as want of memory.
     pub fn push(&mut self, thread: u8, request: Open) -> Result<(), NoMemory>
         requires { thread < length self.old }
         ensures { OnOk result (self.new ≡ slice_set self.old thread (request ∷ listed (slice_get self.old thread))) }
@@ -158,7 +158,7 @@ impl Opened {
         Ok(())
     }
 
-    /// A thread begins with this request alone.
+    /// A thread begins with this request alone. More than 2^64 - 1 requests are told as want of memory.
     pub fn begin(&mut self, alloc: Global, thread: u8, request: Open) -> Result<(), NoMemory>
         requires { thread < length self.old }
         ensures { OnOk result (self.new ≡ slice_set self.old thread (request ∷ [])) }

@@ -132,12 +132,10 @@ impl Places {
     pub fn let_go_all(&mut self, numbers: &[u32])
         ensures { self.new ≡ with_places (let_go numbers.now self.old.places) self.old }
     {
-        match numbers {
-            [] => {}
-            [first, others @ ..] => {
-                self.let_go(*first, false);
-                self.let_go_all(others);
-            }
+        let mut left = numbers;
+        while let Some((first, others)) = left.split_first() {
+            self.let_go(*first, false);
+            left = others;
         }
     }
 
@@ -170,13 +168,12 @@ impl Places {
     pub fn get_all(&mut self, ends: &[EndId]) -> Result<(), NoMemory>
         ensures { OnOk result (self.new ≡ with_places (get_all ends.now self.old.places) self.old) }
     {
-        match ends {
-            [] => Ok(()),
-            [first, others @ ..] => {
-                self.get(*first)?;
-                self.get_all(others)
-            }
+        let mut left = ends;
+        while let Some((first, others)) = left.split_first() {
+            self.get(*first)?;
+            left = others;
         }
+        Ok(())
     }
 
     /// An end is held again, anew, under its number. Where the process never had it nothing changes.
@@ -193,13 +190,12 @@ impl Places {
     pub fn hold_all(&mut self, ends: &[EndId]) -> Result<(), NoMemory>
         ensures { OnOk result (self.new ≡ with_places (hold_all ends.now self.old.places) self.old) }
     {
-        match ends {
-            [] => Ok(()),
-            [first, others @ ..] => {
-                self.hold_again(*first)?;
-                self.hold_all(others)
-            }
+        let mut left = ends;
+        while let Some((first, others)) = left.split_first() {
+            self.hold_again(*first)?;
+            left = others;
         }
+        Ok(())
     }
 
     /// There is room for a thread, or not, and each allow that is due is queued.

@@ -1,0 +1,10 @@
+use Rattle.std.proofs.Common.{◌≡◌, length}
+use Rattle.process_run.specs.Ends.{let_go}
+use Rattle.process_ends.specs.Ends.{with_places}
+use Rattle.process_ends.proofs.places.Places.let_go_all.Given as goal
+
+abbrev pub invariant-loop-first : goal.invariant-loop-first
+invariant-loop-first l = with_places (let_go l.left l.self.places) l.self ≡ with_places (let_go l.numbers l.fn.self.places) l.fn.self
+
+abbrev pub decreases-loop-first : goal.decreases-loop-first
+decreases-loop-first l = length l.left
