@@ -14,6 +14,7 @@ use typing_rules::Row16;
 /// Room for the bytes of one message.
 type Room = ArrayVec<u8, 256>;
 
+#[inline(always)]
 fn put(out: &mut Room, bytes: &[u8]) -> Result<(), TooLong>
     ensures ok { OnOk result (out.new.items ≡ out.old.items ++ bytes.now) }
     ensures long { OnErr result (256 < length (out.old.items ++ bytes.now)) }
@@ -25,6 +26,7 @@ fn put(out: &mut Room, bytes: &[u8]) -> Result<(), TooLong>
 }
 
 #[tactic(auto, unfolding(crate::specs::Spelling::int_text))]
+#[inline(always)]
 fn put_int(out: &mut Room, number: &i64) -> Result<(), TooLong>
     ensures ok { OnOk result (out.new.items ≡ out.old.items ++ int_text number.now) }
     ensures long { OnErr result (256 < length (out.old.items ++ int_text number.now)) }
@@ -33,11 +35,13 @@ fn put_int(out: &mut Room, number: &i64) -> Result<(), TooLong>
 }
 
 #[tactic(auto, unfolding(crate::specs::Spelling::number_text))]
+#[inline(always)]
 fn put_number(out: &mut Room, tag: u8, number: u32) -> Result<(), TooLong>
     ensures ok { OnOk result (out.new.items ≡ out.old.items ++ tag ∷ number_text number) }
     ensures long { OnErr result (256 < length (out.old.items ++ tag ∷ number_text number)) }
 {
-    put_tagged(out, &[tag], &number.to_be_bytes())
+    let [a, b, c, d] = number.to_be_bytes();
+    put(out, &[tag, a, b, c, d])
 }
 
 fn put_numbers(out: &mut Room, numbers: &[i64]) -> Result<(), TooLong>
@@ -50,6 +54,7 @@ fn put_numbers(out: &mut Room, numbers: &[i64]) -> Result<(), TooLong>
     Ok(())
 }
 
+#[inline(always)]
 fn put_row(out: &mut Room, row: &Row16) -> Result<(), TooLong>
     ensures ok { OnOk result (out.new.items ≡ out.old.items ++ 4 ∷ length row.now ∷ flat_map int_text row.now) }
     ensures long { OnErr result (256 < length (out.old.items ++ 4 ∷ length row.now ∷ flat_map int_text row.now)) }
@@ -59,6 +64,7 @@ fn put_row(out: &mut Room, row: &Row16) -> Result<(), TooLong>
     put_numbers(out, numbers)
 }
 
+#[inline(always)]
 fn put_tagged(out: &mut Room, tag: &[u8], bytes: &[u8]) -> Result<(), TooLong>
     ensures ok { OnOk result (out.new.items ≡ out.old.items ++ tag.now ++ bytes.now) }
     ensures long { OnErr result (256 < length (out.old.items ++ tag.now ++ bytes.now)) }
@@ -68,6 +74,7 @@ fn put_tagged(out: &mut Room, tag: &[u8], bytes: &[u8]) -> Result<(), TooLong>
 }
 
 #[tactic(auto, unfolding(crate::specs::Spelling::value_text))]
+#[inline(always)]
 fn put_value(out: &mut Room, value: &RtValue) -> Result<(), TooLong>
     ensures ok { OnOk result (out.new.items ≡ out.old.items ++ value_text value.now) }
     ensures long { OnErr result (256 < length (out.old.items ++ value_text value.now)) }
@@ -122,54 +129,91 @@ fn put_reply(out: &mut Room, number: u32, status: u8, values: &[RtValue]) -> Res
     put_values(out, values)
 }
 
-fn put_enc(out: &mut Room, kind: u8, number: u32, index: u8) -> Result<(), TooLong>
-    ensures ok { OnOk result (out.new.items ≡ out.old.items ++ 7 ∷ kind ∷ number_text number ++ index ∷ []) }
-    ensures long { OnErr result (256 < length (out.old.items ++ 7 ∷ kind ∷ number_text number ++ index ∷ [])) }
+/// The bytes of a packet that is short.
+#[inline(always)]
+fn short(bytes: &[u8]) -> Bytes
+    requires { length bytes.now ≤ 256 }
+    ensures { result ≡ bytes.now }
 {
-    put(out, &[7])?;
-    put_number(out, kind, number)?;
-    put(out, &[index])
+    match Bytes::from_slice(bytes) {
+        Some(short) => short,
+        None => unreachable!(),
+    }
 }
 
+/// A packet that is a number alone.
+#[tactic(auto, unfolding(crate::specs::Spelling::number_text))]
+fn numbered(kind: u8, number: u32) -> Bytes
+    ensures { result ≡ kind ∷ number_text number }
+{
+    let [a, b, c, d] = number.to_be_bytes();
+    short(&[kind, a, b, c, d])
+}
+
+#[tactic(auto, unfolding(crate::specs::Spelling::number_text))]
+fn enc(kind: u8, number: u32, index: u8) -> Bytes
+    ensures { result ≡ 7 ∷ kind ∷ number_text number ++ index ∷ [] }
+{
+    let [a, b, c, d] = number.to_be_bytes();
+    short(&[7, kind, a, b, c, d, index])
+}
+
+/// The bytes that were put.
+#[inline(always)]
+fn whole(room: &Room) -> Bytes
+    ensures { result ≡ room.now.items }
+{
+    match Bytes::from_slice(room.as_slice()) {
+        Some(bytes) => bytes,
+        None => unreachable!(),
+    }
+}
+
+fn request(number: u32, signature: &[u8], values: &[RtValue]) -> Result<Bytes, TooLong>
+    requires { length signature.now ≤ 255 }
+    ensures ok { IfOk result (λ bytes. bytes ≡ 1 ∷ number_text number ++ length signature.now ∷ signature.now ++ values_text values.now) }
+    ensures long { IsErr result ↔ (256 < length (1 ∷ number_text number ++ length signature.now ∷ signature.now ++ values_text values.now)) }
+{
+    let mut room = ArrayVec::new();
+    put_request(&mut room, number, signature, values)?;
+    Ok(whole(&room))
+}
+
+fn reply(number: u32, status: u8, values: &[RtValue]) -> Result<Bytes, TooLong>
+    ensures ok { IfOk result (λ bytes. bytes ≡ 2 ∷ number_text number ++ status ∷ values_text values.now) }
+    ensures long { IsErr result ↔ (256 < length (2 ∷ number_text number ++ status ∷ values_text values.now)) }
+{
+    let mut room = ArrayVec::new();
+    put_reply(&mut room, number, status, values)?;
+    Ok(whole(&room))
+}
+
+/// The bytes of a packet, which are the same in each version that has it. TooLong exactly where they are more than 256.
 #[tactic(auto, unfolding(crate::specs::Spelling::spelling))]
-fn put_packet(out: &mut Room, packet: &RtPacket) -> Result<(), TooLong>
+pub fn encode(packet: &RtPacket) -> Result<Bytes, TooLong>
     requires { IsPacket packet.now }
-    ensures ok { OnOk result (out.new.items ≡ out.old.items ++ spelling packet.now) }
-    ensures long { OnErr result (256 < length (out.old.items ++ spelling packet.now)) }
+    ensures long { IsErr result ↔ (256 < length (spelling packet.now)) }
+    ensures same { IfOk result (λ bytes. bytes ≡ spelling packet.now) }
 {
     match packet {
         RtPacket::Request {
             number,
             signature,
             values,
-        } => { put_request(out, *number, signature.as_slice(), values.as_slice()) }
+        } => request(*number, signature.as_slice(), values.as_slice()),
         RtPacket::Reply {
             number,
             status,
             values,
-        } => { put_reply(out, *number, *status, values.as_slice()) }
-        RtPacket::Retry(number) => put_number(out, 3, *number),
-        RtPacket::Forbid(number) => put_number(out, 4, *number),
-        RtPacket::Allow(number) => put_number(out, 5, *number),
-        RtPacket::GoAhead(number) => put_number(out, 6, *number),
+        } => reply(*number, *status, values.as_slice()),
+        RtPacket::Retry(number) => Ok(numbered(3, *number)),
+        RtPacket::Forbid(number) => Ok(numbered(4, *number)),
+        RtPacket::Allow(number) => Ok(numbered(5, *number)),
+        RtPacket::GoAhead(number) => Ok(numbered(6, *number)),
         RtPacket::Enc {
             kind,
             number,
             index,
-        } => put_enc(out, *kind, *number, *index),
-    }
-}
-
-/// The bytes of a packet, which are the same in each version that has it. TooLong exactly where they are more than 256.
-pub fn encode(packet: &RtPacket) -> Result<Bytes, TooLong>
-    requires { IsPacket packet.now }
-    ensures long { IsErr result ↔ (256 < length (spelling packet.now)) }
-    ensures same { IfOk result (λ bytes. bytes ≡ spelling packet.now) }
-{
-    let mut room = ArrayVec::new();
-    put_packet(&mut room, packet)?;
-    match Bytes::from_slice(room.as_slice()) {
-        Some(bytes) => Ok(bytes),
-        None => unreachable!(),
+        } => Ok(enc(*kind, *number, *index)),
     }
 }
