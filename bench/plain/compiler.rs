@@ -21,9 +21,15 @@ pub enum Literal {
 pub struct Exception(pub u8);
 
 impl Exception {
+    pub const BUSYLINK: Exception = Exception(0);
+    pub const DEADLINK: Exception = Exception(1);
+    pub const NOLINK: Exception = Exception(2);
     pub const DIVIDE: Exception = Exception(3);
     pub const OVERFLOW: Exception = Exception(4);
     pub const RANGE: Exception = Exception(5);
+    pub const FAILED: Exception = Exception(6);
+    pub const REPLIED: Exception = Exception(7);
+    pub const LINKSFULL: Exception = Exception(8);
 }
 
 #[derive(Clone, Copy)]

@@ -42,6 +42,16 @@ pub struct Row {
 }
 
 impl Row {
+    pub fn of(numbers: &[i64]) -> Row {
+        let mut cells = [0; MOST_ROW];
+        cells[..numbers.len()].copy_from_slice(numbers);
+        Row { length: numbers.len() as u8, cells }
+    }
+
+    pub fn as_slice(&self) -> &[i64] {
+        &self.cells[..usize::from(self.length)]
+    }
+
     fn member(&mut self, index: i64) -> Result<&mut i64, Exception> {
         let index = usize::try_from(index).ok().filter(|&index| index < usize::from(self.length));
         index.map(|index| &mut self.cells[index]).ok_or(Exception::RANGE)
@@ -309,6 +319,18 @@ impl<'a> Machine<'a> {
             ready: VecDeque::from([0]),
             awaiting: Vec::new(),
         }
+    }
+
+    /// The params hold these links.
+    pub fn set_links(&mut self, links: impl Iterator<Item = u32>) {
+        for (global, link) in self.globals.iter_mut().zip(links) {
+            *global = Value::Link(link);
+        }
+    }
+
+    /// How many threads stand.
+    pub fn standing(&self) -> usize {
+        self.threads.iter().filter(|thread| thread.is_some()).count()
     }
 
     /// A thread on an entry, by the entry's number. There is none where as many threads stand as may.

@@ -584,6 +584,19 @@ impl Report {
     }
 }
 
+/// The answer to a call, if it is there at once, or why it is refused.
+type Outcome = Result<Option<Answer>, &'static [u8]>;
+
+/// What a process is told of its call.
+// not each program has processes that hear it
+#[allow(dead_code)]
+enum Answer {
+    Ok,
+    Made(End, End),
+    Reported(Report),
+    Refused(&'static [u8]),
+}
+
 #[derive(Clone, Copy, PartialEq)]
 enum State {
     Running,
@@ -598,6 +611,8 @@ struct Process {
     /// How many activities are started on its ends.
     started: u32,
     reports: VecDeque<Report>,
+    /// The answer to its last call, where it has come and the process did not go on with it yet.
+    answer: Option<Answer>,
 }
 
 /// A want, unwant or unwanted.
@@ -699,16 +714,25 @@ impl Event<'_> {
             Call::CancelOut(on) => self.cancel_out(p, on),
             Call::CancelIn(on) => self.cancel_in(p, on),
             Call::Wait => self.wait(p),
-            Call::Print(_) => Ok(()),
+            Call::Print(_) => Ok(Some(Answer::Ok)),
             Call::Exit => self.exit(p),
         };
-        if let Err(cause) = outcome {
-            self.kernel.journal.process_step(b"refuse", p, cause);
+        match outcome {
+            Ok(None) => {}
+            Ok(answer) => self.answer(usize::from(p), answer),
+            Err(cause) => {
+                self.kernel.journal.process_step(b"refuse", p, cause);
+                self.answer(usize::from(p), Some(Answer::Refused(cause)));
+            }
         }
         self.kernel.journal.finish(self.stamp, from);
     }
 
-    fn make(&mut self, p: u8) -> Result<(), &'static [u8]> {
+    fn answer(&mut self, p: usize, answer: Option<Answer>) {
+        self.processes[p].answer = answer;
+    }
+
+    fn make(&mut self, p: u8) -> Outcome {
         let kernel = &mut *self.kernel;
         if kernel.made == MOST_LINKS {
             return Err(b" LinksFull");
@@ -722,16 +746,16 @@ impl Event<'_> {
         kernel.journal.text.push(b' ');
         put_end(&mut kernel.journal.text, a.opposite());
         kernel.journal.text.push(b'\n');
-        Ok(())
+        Ok(Some(Answer::Made(a, a.opposite())))
     }
 
-    fn destroy(&mut self, p: u8, on: End) -> Result<(), &'static [u8]> {
+    fn destroy(&mut self, p: u8, on: End) -> Outcome {
         if owned(&mut self.kernel.table, p, on).is_none() {
             return Err(b" NoEnd");
         }
         self.kernel.journal.whole_step(b"destroy", on);
         self.end(on);
-        Ok(())
+        Ok(Some(Answer::Ok))
     }
 
     fn may_send(&mut self, p: u8, on: End, enclosed: &[End]) -> Result<(), &'static [u8]> {
@@ -761,7 +785,7 @@ impl Event<'_> {
         }
     }
 
-    fn start_send(&mut self, p: u8, on: End, message: Box<Message>) -> Result<(), &'static [u8]> {
+    fn start_send(&mut self, p: u8, on: End, message: Box<Message>) -> Outcome {
         self.may_send(p, on, &message.enclosed)?;
         for &end in &message.enclosed {
             here(&mut self.kernel.table, end).expect(THERE).holder = Holder::Message;
@@ -778,10 +802,10 @@ impl Event<'_> {
         if here.moving.want != 0 {
             self.do_match(on);
         }
-        Ok(())
+        Ok(Some(Answer::Ok))
     }
 
-    fn post(&mut self, p: u8, on: End) -> Result<(), &'static [u8]> {
+    fn post(&mut self, p: u8, on: End) -> Outcome {
         let at = self.kernel.id;
         let here = owned(&mut self.kernel.table, p, on).ok_or(&b" NoEnd"[..])?;
         if here.inward != Inward::Idle {
@@ -797,10 +821,10 @@ impl Event<'_> {
         self.processes[usize::from(p)].started += 1;
         self.kernel.journal.whole_step(b"receive", on);
         self.send(hint, What::Want(ask));
-        Ok(())
+        Ok(Some(Answer::Ok))
     }
 
-    fn cancel_out(&mut self, p: u8, on: End) -> Result<(), &'static [u8]> {
+    fn cancel_out(&mut self, p: u8, on: End) -> Outcome {
         let here_on = owned(&mut self.kernel.table, p, on).ok_or(&b" NoEnd"[..])?;
         if here_on.moving.is_dead {
             return Err(b" Dead");
@@ -819,10 +843,10 @@ impl Event<'_> {
         self.processes[usize::from(p)].started -= 1;
         self.kernel.journal.step(b"cancel", on);
         self.kernel.journal.ending(true, b" out");
-        Ok(())
+        Ok(Some(Answer::Ok))
     }
 
-    fn cancel_in(&mut self, p: u8, on: End) -> Result<(), &'static [u8]> {
+    fn cancel_in(&mut self, p: u8, on: End) -> Outcome {
         let at = self.kernel.id;
         let here = owned(&mut self.kernel.table, p, on).ok_or(&b" NoEnd"[..])?;
         if here.moving.is_dead {
@@ -839,10 +863,10 @@ impl Event<'_> {
         self.kernel.journal.step(b"cancel", on);
         self.kernel.journal.ending(true, b" in");
         self.send(hint, What::Unwant(ask));
-        Ok(())
+        Ok(None)
     }
 
-    fn wait(&mut self, p: u8) -> Result<(), &'static [u8]> {
+    fn wait(&mut self, p: u8) -> Outcome {
         let process = &mut self.processes[usize::from(p)];
         let first = process.reports.pop_front();
         if first.is_none() && process.started == 0 {
@@ -853,10 +877,10 @@ impl Event<'_> {
             Some(report) => self.answer_wait(p, report),
             None => process.state = State::InWait,
         }
-        Ok(())
+        Ok(None)
     }
 
-    fn exit(&mut self, p: u8) -> Result<(), &'static [u8]> {
+    fn exit(&mut self, p: u8) -> Outcome {
         self.kernel.journal.process_step(b"exit", p, b"");
         let is_owned = |(&end, entry): (&End, &Entry)| match entry {
             Entry::Here(here) if here.holder == Holder::Owner(p) => Some(end),
@@ -870,7 +894,7 @@ impl Event<'_> {
         let process = &mut self.processes[usize::from(p)];
         process.reports = VecDeque::new();
         process.state = State::Exited;
-        Ok(())
+        Ok(Some(Answer::Ok))
     }
 
     // ------------------------------------------------------------ actions
@@ -956,6 +980,7 @@ impl Event<'_> {
         if let (true, Holder::Owner(p)) = (is_receiving, holder) {
             if inward == Inward::Withdrawing {
                 self.processes[usize::from(p)].state = State::Running;
+                self.answer(usize::from(p), Some(Answer::Refused(b" Dead")));
             }
             self.report(usize::from(p), Report::destroyed(on, true, Box::default()));
         }
@@ -1001,13 +1026,15 @@ impl Event<'_> {
 
     fn answer_wait(&mut self, p: u8, report: Report) {
         self.kernel.journal.report(p, &report);
-        let Some(here) = here(&mut self.kernel.table, report.on) else { return };
-        if report.is_inward && here.inward == Inward::Unreported {
-            here.inward = Inward::Idle;
+        if let Some(here) = here(&mut self.kernel.table, report.on) {
+            if report.is_inward && here.inward == Inward::Unreported {
+                here.inward = Inward::Idle;
+            }
+            if !report.is_inward && matches!(here.outward, Outward::Unreported) {
+                here.outward = Outward::Idle;
+            }
         }
-        if !report.is_inward && matches!(here.outward, Outward::Unreported) {
-            here.outward = Outward::Idle;
-        }
+        self.answer(usize::from(p), Some(Answer::Reported(report)));
     }
 
     /// Values become Here with an owner.
@@ -1094,9 +1121,11 @@ impl Event<'_> {
         }
         let rose = here.moving.learn(ask.at, ask.hops);
         here.inward = Inward::Idle;
-        let process = &mut self.processes[here.owner()];
+        let owner = here.owner();
+        let process = &mut self.processes[owner];
         process.started -= 1;
         process.state = State::Running;
+        self.answer(owner, Some(Answer::Ok));
         self.kernel.journal.whole_step(b"free", ask.to);
         if rose {
             self.resend(ask.to);
@@ -1125,6 +1154,7 @@ impl Event<'_> {
         self.arrive(&moving, owner);
         if is_late {
             self.processes[owner].state = State::Running;
+            self.answer(owner, Some(Answer::Refused(b" Late")));
         }
         let enclosed = moving.iter().map(|value| value.end).collect();
         self.report(owner, Report { on: to, is_inward: true, is_done: true, bytes, enclosed });
@@ -1251,7 +1281,7 @@ struct World {
 impl World {
     fn start(setting: &Setting) -> World {
         let kernel = |id| Kernel { id, stamp: 0, made: 0, table: Table::default(), journal: Journal::default() };
-        let process = |&home| Process { home, state: State::Running, started: 0, reports: VecDeque::new() };
+        let process = |&home| Process { home, state: State::Running, started: 0, reports: VecDeque::new(), answer: None };
         let lists = (0..MOST_KERNELS * MOST_KERNELS).map(|_| VecDeque::new()).collect();
         let mut world = World {
             kernels: (0..setting.kernels).map(kernel).collect(),

@@ -5,65 +5,12 @@
 //! many events there were.
 #![allow(dead_code)]
 
-use std::cell::UnsafeCell;
 use std::hint::black_box;
 use std::io::{self, BufWriter, Write};
-use std::mem::MaybeUninit;
-use std::sync::atomic::{AtomicUsize, Ordering};
-use std::thread;
 
 include!("kernels.rs");
 include!("merging.rs");
-
-/// How many letters a ring holds.
-const RING: usize = 64;
-
-/// So many idle turns in a row, and a worker lets other threads run.
-const YIELDS: u32 = 16;
-
-// ---------------------------------------------------------------- rings
-
-/// A ring of packets between one putter and one taker.
-struct Ring {
-    places: [UnsafeCell<MaybeUninit<Packet>>; RING],
-    put: Counter,
-    got: Counter,
-}
-
-/// A count on a cache line of its own.
-#[repr(align(128))]
-#[derive(Default)]
-struct Counter(AtomicUsize);
-
-// One thread puts and one gets, and each place is handed over by a count.
-unsafe impl Sync for Ring {}
-
-impl Ring {
-    fn new() -> Ring {
-        Ring { places: [const { UnsafeCell::new(MaybeUninit::uninit()) }; RING], put: Counter::default(), got: Counter::default() }
-    }
-
-    fn has_room(&self) -> bool {
-        self.put.0.load(Ordering::Relaxed) - self.got.0.load(Ordering::Acquire) < RING
-    }
-
-    /// There is room.
-    fn put(&self, packet: Packet) {
-        let count = self.put.0.load(Ordering::Relaxed);
-        unsafe { (*self.places[count % RING].get()).write(packet) };
-        self.put.0.store(count + 1, Ordering::Release);
-    }
-
-    fn get(&self) -> Option<Packet> {
-        let count = self.got.0.load(Ordering::Relaxed);
-        if self.put.0.load(Ordering::Acquire) == count {
-            return None;
-        }
-        let packet = unsafe { (*self.places[count % RING].get()).assume_init_read() };
-        self.got.0.store(count + 1, Ordering::Release);
-        Some(packet)
-    }
-}
+include!("nodes.rs");
 
 // ---------------------------------------------------------------- programs
 
@@ -76,7 +23,7 @@ enum Move {
 }
 
 /// A program that makes the same moves again and again.
-struct Program {
+struct Moves {
     moves: Vec<Move>,
     place: usize,
     rounds: u32,
@@ -93,10 +40,10 @@ fn think(mut noise: u64) -> u64 {
     black_box(noise)
 }
 
-impl Program {
-    fn next(&mut self) -> Option<Move> {
+impl Program for Moves {
+    fn next(&mut self, _: Option<Answer>) -> Step {
         if self.rounds == 0 {
-            return None;
+            return Step::Ended;
         }
         let next = self.moves[self.place];
         self.place += 1;
@@ -104,175 +51,17 @@ impl Program {
             self.place = 0;
             self.rounds -= 1;
         }
-        Some(next)
-    }
-}
-
-// ---------------------------------------------------------------- nodes
-
-/// A kernel with its programs, in the order in which they take turns.
-struct Node {
-    kernel: Kernel,
-    processes: Vec<Process>,
-    programs: Vec<(u8, Program)>,
-    is_over: Vec<bool>,
-    next: usize,
-    /// What is not in a ring yet.
-    outbox: Net,
-    kernels: usize,
-}
-
-#[derive(PartialEq)]
-enum Turn {
-    Worked,
-    Idle,
-}
-
-impl Node {
-    fn id(&self) -> usize {
-        usize::from(self.kernel.id)
-    }
-
-    fn event(&mut self, after: u64) -> Event<'_> {
-        let kernel = &mut self.kernel;
-        kernel.stamp = kernel.stamp.max(after) + 1;
-        Event { stamp: kernel.stamp, kernel, processes: &mut self.processes, net: &mut self.outbox }
-    }
-
-    /// Packets go out while there is room: whether one did.
-    fn put(&mut self, rings: &[Ring]) -> bool {
-        let mut some = false;
-        let mut filled = self.outbox.filled;
-        while filled != 0 {
-            let place = filled.trailing_zeros() as usize;
-            filled &= filled - 1;
-            while rings[place].has_room() {
-                let Some(packet) = self.outbox.get(place) else { break };
-                rings[place].put(packet);
-                some = true;
-            }
-        }
-        some
-    }
-
-    fn take(&mut self, rings: &[Ring]) -> bool {
-        for from in 0..self.kernels {
-            if let Some(packet) = rings[from * MOST_KERNELS + self.id()].get() {
-                self.event(packet.stamp).take(from as u8, packet.what);
-                return true;
-            }
-        }
-        false
-    }
-
-    /// The next program that can go on makes a step.
-    fn step(&mut self) -> bool {
-        let count = self.programs.len();
-        for place in (self.next..count).chain(0..self.next) {
-            let p = self.programs[place].0;
-            if self.is_over[place] || self.processes[usize::from(p)].state != State::Running {
-                continue;
-            }
-            self.next = if place + 1 == count { 0 } else { place + 1 };
-            self.make(place, p);
-            return true;
-        }
-        false
-    }
-
-    fn make(&mut self, place: usize, p: u8) {
-        let program = &mut self.programs[place].1;
         let message = || Box::new(Message { bytes: b"x"[..].into(), enclosed: Box::new([]) });
-        let call = match program.next() {
-            None => {
-                self.is_over[place] = true;
-                return;
+        match next {
+            Move::Send(on) => Step::Ask(Call::Send(on, message())),
+            Move::Receive(on) => Step::Ask(Call::Receive(on)),
+            Move::Wait => Step::Ask(Call::Wait),
+            Move::Think => {
+                self.noise = think(self.noise);
+                Step::Pause
             }
-            Some(Move::Think) => {
-                program.noise = think(program.noise);
-                return;
-            }
-            Some(Move::Send(on)) => Call::Send(on, message()),
-            Some(Move::Receive(on)) => Call::Receive(on),
-            Some(Move::Wait) => Call::Wait,
-        };
-        self.event(0).ask(p, call);
-    }
-
-    fn turn(&mut self, rings: &[Ring]) -> Turn {
-        let sent = self.put(rings);
-        if self.take(rings) || self.step() || sent { Turn::Worked } else { Turn::Idle }
-    }
-
-    /// Whether nothing waits to go out, and each program is over or waits.
-    fn is_at_rest(&self) -> bool {
-        self.outbox.filled == 0
-            && self.programs.iter().zip(&self.is_over).all(|((p, _), over)| *over || self.processes[usize::from(*p)].state != State::Running)
-    }
-}
-
-// ---------------------------------------------------------------- runs
-
-fn rings() -> Vec<Ring> {
-    (0..MOST_KERNELS * MOST_KERNELS).map(|_| Ring::new()).collect()
-}
-
-fn run_serial(nodes: &mut [Node], rings: &[Ring]) {
-    loop {
-        let mut worked = false;
-        for node in nodes.iter_mut() {
-            worked |= node.turn(rings) == Turn::Worked;
-        }
-        if !worked {
-            return;
         }
     }
-}
-
-/// Counts what is put and not taken, and the nodes that are not at rest: the run is over where there is nothing of both.
-fn run_threads(nodes: &mut [Node], rings: &[Ring]) {
-    let idle = AtomicUsize::new(0);
-    let count = nodes.len();
-    thread::scope(|scope| {
-        for node in nodes {
-            let idle = &idle;
-            scope.spawn(move || {
-                while work(node, rings, idle, count) {}
-            });
-        }
-    });
-}
-
-/// Works until there is nothing to do, then waits until there is something again: whether there is.
-fn work(node: &mut Node, rings: &[Ring], idle: &AtomicUsize, count: usize) -> bool {
-    while node.turn(rings) == Turn::Worked {}
-    idle.fetch_add(1, Ordering::SeqCst);
-    let mut turns = 0;
-    loop {
-        if has_letter(node, rings) || !node.is_at_rest() {
-            idle.fetch_sub(1, Ordering::SeqCst);
-            return true;
-        }
-        if idle.load(Ordering::SeqCst) == count && are_empty(rings) && idle.load(Ordering::SeqCst) == count {
-            return false;
-        }
-        turns += 1;
-        if turns >= YIELDS {
-            thread::yield_now();
-        }
-    }
-}
-
-fn has_letter(node: &Node, rings: &[Ring]) -> bool {
-    (0..node.kernels).any(|from| is_filled(&rings[from * MOST_KERNELS + node.id()]))
-}
-
-fn is_filled(ring: &Ring) -> bool {
-    ring.put.0.load(Ordering::SeqCst) != ring.got.0.load(Ordering::SeqCst)
-}
-
-fn are_empty(rings: &[Ring]) -> bool {
-    !rings.iter().any(is_filled)
 }
 
 // ---------------------------------------------------------------- kinds
@@ -347,22 +136,14 @@ fn kind(name: &str) -> Kind {
     }
 }
 
-fn nodes(kind: Kind, rounds: u32) -> (Setting, Vec<Node>) {
+fn nodes(kind: Kind, rounds: u32) -> (Setting, Vec<Node<Moves>>) {
     let setting = Setting { version: 1, kernels: kind.kernels, homes: kind.homes, wires: kind.wires };
-    let mut programs: Vec<Vec<(u8, Program)>> = (0..kind.kernels).map(|_| Vec::new()).collect();
-    for ((p, &home), moves) in (0..).zip(&setting.homes).zip(kind.moves) {
-        programs[usize::from(home)].push((p, Program { moves, place: 0, rounds, noise: 1 }));
-    }
-    let nodes = World::start(&setting).kernels.into_iter().zip(programs).map(|(kernel, programs)| {
-        let World { processes, net, .. } = World::start(&Setting { wires: Vec::new(), homes: setting.homes.clone(), ..setting });
-        let is_over = vec![false; programs.len()];
-        Node { kernel, processes, is_over, programs, next: 0, outbox: net, kernels: usize::from(setting.kernels) }
-    });
-    let nodes = nodes.collect();
+    let programs = kind.moves.into_iter().map(|moves| Moves { moves, place: 0, rounds, noise: 1 }).collect();
+    let nodes = nodes_of(&setting, programs, u32::MAX);
     (setting, nodes)
 }
 
-fn put(nodes: Vec<Node>, setting: &Setting, is_printed: bool) -> io::Result<()> {
+fn put(nodes: Vec<Node<Moves>>, setting: &Setting, is_printed: bool) -> io::Result<()> {
     let mut out = BufWriter::with_capacity(1 << 16, io::stdout());
     let journals: Vec<Journal> = nodes.into_iter().map(|node| node.kernel.journal).collect();
     if !is_printed {
