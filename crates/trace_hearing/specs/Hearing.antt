@@ -26,6 +26,7 @@ use Rattle.trace_meaning.specs.Words.{HasChain, IsGoingTo, IsGoneFrom, IsKnownOf
 abbrev pub IsTaught : MovingPicture → MovingPicture → Type 0
 IsTaught m l = l ≡ record m { hint = l.hint; sent = l.sent; asked = l.asked; want = l.want; served = l.served }
 
+-- an entry stays as it is, but for what an end that is here, or a mark, hears and counts
 abbrev pub IsMildly : Entry → Entry → Type 0
 IsMildly entry.Nothing entry.Nothing = Unit {0}
 IsMildly (entry.Here v) (entry.Here u) = IsTaught v.value u.value
