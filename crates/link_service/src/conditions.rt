@@ -179,7 +179,7 @@ impl Service {
 
     /// The first cause that holds of any call but Wait. It costs no more than a look-up for each enclosed end.
     #[tactic(auto, unfolding(crate::specs::Service::state_of))]
-    pub(crate) fn refusal(&self, p: Pid, call: &Call) -> Option<Cause>
+    pub fn refusal(&self, p: Pid, call: &Call) -> Option<Cause>
         ensures { result ≡ refusal (state_of self.now) p call.now }
     {
         match call {

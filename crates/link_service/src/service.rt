@@ -111,15 +111,17 @@ impl Service {
         self.version
     }
 
+    /// The ends of all links.
     #[inline(always)]
-    pub(crate) fn links(&self) -> &Links
+    pub fn links(&self) -> &Links
         ensures { result.now ≡ self.now.links }
     {
         &self.links
     }
 
+    /// The processes.
     #[inline(always)]
-    pub(crate) fn processes(&self) -> &Processes
+    pub fn processes(&self) -> &Processes
         ensures { result.now ≡ self.now.processes }
     {
         &self.processes
