@@ -1,0 +1,4 @@
+pub mod Tame
+pub mod Takings
+pub mod Calls
+pub mod Run
