@@ -63,14 +63,14 @@ run-open s [] is run quiet = as-open-same s.ends
 run-open s (x ∷ part) is run quiet = as-open-on (step-open s x.0 x.1 is run.0 quiet.0) (plain-open x.1 part (consistent_after s x.0 x.1 is run.0) run.1 quiet.1)
 
 -- ends are as the first step leaves them, where others follow by which they stay
-pub led : (P : (EndId → End) → Type 0) → ({t u : EndId → End} → AreAsOpen t u → P t → P u) → (s : State) (part : List (ServiceStep × State)) (x : ServiceStep) (more : List ServiceStep) → IsConsistent s → IsRunFrom s part
+pub led : (P : (EndId → End) → Type 0) → ((t u : EndId → End) → AreAsOpen t u → P t → P u) → (s : State) (part : List (ServiceStep × State)) (x : ServiceStep) (more : List ServiceStep) → IsConsistent s → IsRunFrom s part
     → map (λ made. made.0) part ≡ x ∷ more → AllByRecursion IsPlainStep more → ((t : State) → IsServiceStep s x t → P t.ends) → P (state_after s part).ends
 led P on s [] x more is run same plain each = absurd (let differ : [] ≡ x ∷ more = same in cc)
 led P on s (y ∷ part) x more is run same plain each =
     let head : y.0 ≡ x = (cc) in
     let tail : map (λ made. made.0) part ≡ more = (cc) in
     let first : IsServiceStep s x y.1 = subst (λ z. IsServiceStep s z y.1) head run.0 in
-    on (plain-open y.1 part (consistent_after s x y.1 is first) run.1 (subst (AllByRecursion IsPlainStep) (sym tail) plain)) (each y.1 first)
+    on y.1.ends (state_after y.1 part).ends (plain-open y.1 part (consistent_after s x y.1 is first) run.1 (subst (AllByRecursion IsPlainStep) (sym tail) plain)) (each y.1 first)
 
 -- reports that are told
 pub reports-plain : (p : Pid) (rs : List Report) → AllByRecursion IsPlainStep (map (step.Report p) rs)

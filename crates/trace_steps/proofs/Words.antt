@@ -1,5 +1,6 @@
 -- What the words of the service leave of which ends live, know of the death of their link, and are destroyed.
 use Rattle.std.proofs.Common.{◌≡◌, ◌⊎◌, inl, inr, ℕ, Bool, true, false, true≢false, if◌then◌else◌, List, [], ◌∷◌, Contains, Option, None, Some, refl, sym, ap, subst, ◌∙◌}
+use Rattle.charlotte_calls.specs.Names.{opposite}
 use Rattle.charlotte_calls.specs.declared.names.EndId.{EndId}
 use Rattle.charlotte_calls.specs.declared.names.Pid.{Pid}
 use Rattle.charlotte_calls.specs.declared.names.Way.{Way}
@@ -133,11 +134,11 @@ idles-open way.Inward e t = turns_inward-open inward.Idle e t
 
 pub matches-open : (e : EndId) (n : ℕ) (t : EndId → End) → AreAsOpen t (matches e n t)
 unfolding matches
-matches-open e n t = as-open-on (turns_outward-open (matched_outward (t e).outward) e t) (turns_inward-open (inward.Matched n) _ (turns_outward (matched_outward (t e).outward) e t))
+matches-open e n t = as-open-on (turns_outward-open (matched_outward (t e).outward) e t) (turns_inward-open (inward.Matched n) (opposite e) (turns_outward (matched_outward (t e).outward) e t))
 
 pub sends-open : (e : EndId) (n : ℕ) (m : Message) (t : EndId → End) → ((q : EndId) → Contains m.carried q → is_living (t q).place ≡ true) → AreAsOpen t (starts_send e n m t)
 unfolding starts_send
-sends-open e n m t each = as-open-on first (places-open (place.InMessage e n) m.carried _ refl (λ q has. first.living q ∙ each q has))
+sends-open e n m t each = as-open-on first (places-open (place.InMessage e n) m.carried (puts e (record (t e) { outward = outward.Waiting m; sent = n }) t) refl (λ q has. first.living q ∙ each q has))
   where
     first : AreAsOpen t (puts e (record (t e) { outward = outward.Waiting m; sent = n }) t)
     first = puts-open e (record (t e) { outward = outward.Waiting m; sent = n }) t refl refl
@@ -176,10 +177,10 @@ module _ (s : State) (is : IsConsistent s) where
 
   pub takes-open : (e : EndId) (p : Pid) → AreAsOpen s.ends (takes e p s.ends)
   unfolding takes
-  takes-open e p = as-open-on both (places-open (place.Owned p) (carried_by (matched_message (s.ends e).outward)) _ refl (λ q has. both.living q ∙ matched-lives s is e q has))
+  takes-open e p = as-open-on both (places-open (place.Owned p) (carried_by (matched_message (s.ends e).outward)) (turns_inward inward.Unreported (opposite e) (turns_outward outward.Taken e s.ends)) refl (λ q has. both.living q ∙ matched-lives s is e q has))
     where
-      both : AreAsOpen s.ends (turns_inward inward.Unreported _ (turns_outward outward.Taken e s.ends))
-      both = as-open-on (turns_outward-open outward.Taken e s.ends) (turns_inward-open inward.Unreported _ (turns_outward outward.Taken e s.ends))
+      both : AreAsOpen s.ends (turns_inward inward.Unreported (opposite e) (turns_outward outward.Taken e s.ends))
+      both = as-open-on (turns_outward-open outward.Taken e s.ends) (turns_inward-open inward.Unreported (opposite e) (turns_outward outward.Taken e s.ends))
 
   pub notices-aware : (e : EndId) → is_living (s.ends e).place ≡ true → AreAsOpen (aware e s.ends) (notices e s.ends)
   unfolding notices
