@@ -24,15 +24,16 @@ use Rattle.end_table.specs.declared.entry.HereView.{HereView}
 use Rattle.end_table.specs.declared.entry.Holder.TheVariants as holder
 use Rattle.end_table.specs.declared.entry.Inward.{Inward}
 use Rattle.end_table.specs.declared.entry.Inward.TheVariants as inward
-use Rattle.kernel_effects.specs.Calls.{act_effect, effect_on, post_effect, send_effect, withdraw_posted_effect, withdraw_send_effect}
-use Rattle.kernel_effects.specs.Effect.{Effect}
+use Rattle.kernel_effects.specs.Actions.{ends_all, held_entry, match_effect}
+use Rattle.kernel_effects.specs.Calls.{act_effect, effect_on, ended_with, post_effect, send_effect, sending_view, withdraw_posted_effect, withdraw_send_effect}
+use Rattle.kernel_effects.specs.Effect.{Effect, nothing, puts, stays, turns}
 use Rattle.kernel_outcomes.specs.Closing.{call_told}
 use Rattle.kernel_sound.proofs.Needs.{AreFree, send-free}
 use Rattle.kernel_step.specs.Calls.{IsCallWith, made_end, refusal, sees}
 use Rattle.kernel_step.specs.Kernel.{has_report, process_of}
 use Rattle.kernel_step.specs.declared.phase.Phase.TheVariants as kernel_phase
 use Rattle.kernel_world.specs.Run.{IsAllowed, IsCallOf}
-use Rattle.kernel_world.specs.World.{Calls, World, happens, outcome}
+use Rattle.kernel_world.specs.World.{Calls, World, happens}
 use Rattle.service_change.proofs.Change.{living-made}
 use Rattle.service_step.specs.Ends.{destroys_each, is_living, is_made}
 use Rattle.service_step.specs.Run.{IsRunFrom, state_after}
@@ -99,11 +100,11 @@ module _ (g : Setting) (i : ℕ) (w : World) (s : State) (k : ℕ) (p : Pid) (c 
   abbrev now : EndId → End
   now = (state_after s goes.part).ends
 
-  abbrev table : EndId → Entry
-  table = (w.kernel k).table
+  abbrev entries : EndId → Entry
+  entries = (w.kernel k).table
 
-  abbrev made : ℕ
-  made = (w.kernel k).made
+  abbrev count : ℕ
+  count = (w.kernel k).made
 
   below : p.0 < length s.homes
   below = subst (λ hs. p.0 < length hs) (sym homes) allowed.0
@@ -114,7 +115,7 @@ module _ (g : Setting) (i : ℕ) (w : World) (s : State) (k : ℕ) (p : Pid) (c 
   running : ((w.kernel k).process p.0).phase ≡ kernel_phase.Running
   running = allowed.2
 
-  refused : (cause : Cause) → refusal p table made mine (has_report (process_of p (w.kernel k))) c ≡ Some cause → AreTraced u now
+  refused : (cause : Cause) → refusal p entries count mine (has_report (process_of p (w.kernel k))) c ≡ Some cause → AreTraced u now
   refused cause is_refused = refused-traced i w s k p c mine now is as_open traced cause is_refused
     where
       happened : Happens w (Calls k p c mine) (refusing w k p c cause)
@@ -125,9 +126,9 @@ module _ (g : Setting) (i : ℕ) (w : World) (s : State) (k : ℕ) (p : Pid) (c 
 
   -- ---- a call that is not refused
 
-  module _ (granted : refusal p table made mine (has_report (process_of p (w.kernel k))) c ≡ None) where
+  module _ (granted : refusal p entries count mine (has_report (process_of p (w.kernel k))) c ≡ None) where
     abbrev effect : Effect
-    effect = act_effect p k made mine table c
+    effect = act_effect p k count mine entries c
 
     abbrev news : List Report
     news = call_told c (caller p (w.kernel k)).reports
@@ -141,13 +142,17 @@ module _ (g : Setting) (i : ℕ) (w : World) (s : State) (k : ℕ) (p : Pid) (c 
     opened : AreQuiet s effect.steps → AreAsOpen s.ends now
     opened quiet = run-open s goes.part is.service goes.run (subst (AreQuiet s) (sym steps-are) (quiet-append s effect.steps (map (step.Report p) news) quiet (reports-plain p news)))
 
-    calmly : AreQuiet s effect.steps → IsCalmCall table c → AreTraced u now
+    calmly : AreQuiet s effect.steps → IsCalmCall entries c → AreTraced u now
     calmly quiet calm = call-traced i w s k p c mine now is (opened quiet) traced g allowed calm
 
     -- the ends of the service are as the one step leaves them
-    by-step : (P : (EndId → End) → Type 0) → ({t v : EndId → End} → AreAsOpen t v → P t → P v) → (x : ServiceStep) → effect.steps ≡ x ∷ [] → ((t : State) → IsServiceStep s x t → P t.ends) → P now
+    by-step : (P : (EndId → End) → Type 0) → ((t v : EndId → End) → AreAsOpen t v → P t → P v) → (x : ServiceStep) → effect.steps ≡ x ∷ [] → ((t : State) → IsServiceStep s x t → P t.ends) → P now
     by-step P on x one each =
         led P on s goes.part x (map (step.Report p) news) is.service goes.run (steps-are ∙ ap (λ xs. xs ++ map (step.Report p) news) one) (reports-plain p news) each
+
+chosen-quiet : (s : State) (a : Bool) (f g : Effect) → AreQuiet s f.steps → AreQuiet s g.steps → AreQuiet s (if a then f else g).steps
+chosen-quiet s true f g one other = one
+chosen-quiet s false f g one other = other
 
 -- each kind of call
 module _ (g : Setting) (i : ℕ) (w : World) (s : State) (k : ℕ) (p : Pid) (mine : List EndId) (is : Invariant i w s) (homes : s.homes ≡ g.homes) (version : s.version ≡ g.version) (room : i < 2 ^ 31) (traced : AreTraced (links_of w) s.ends) where
@@ -178,11 +183,15 @@ module _ (g : Setting) (i : ℕ) (w : World) (s : State) (k : ℕ) (p : Pid) (mi
   posted-quiet v inward.Unreported = tt
 
   sent-quiet : (bytes : List ℕ) (xs : List EndId) → ((q : EndId) → Contains xs q → is_living (s.ends q).place ≡ true) → (v : HereView) → AreQuiet s (send_effect k table bytes xs v).steps
-  sent-quiet bytes xs lives v = by (nat_eq v.value.want 0)
-    where
-      by : (b : Bool) → AreQuiet s (if b then step.Send v.value.end (gains_one v.value.sent) bytes xs ∷ [] else step.Send v.value.end (gains_one v.value.sent) bytes xs ∷ step.Match v.value.end (gains_one v.value.sent) ∷ [])
-      by true = (lives, tt)
-      by false = (lives, (tt, tt))
+  sent-quiet bytes xs lives v =
+      chosen-quiet s (nat_eq v.value.want 0)
+      (record nothing {
+        entry = puts v.value.end (entry.Here (sending_view v bytes xs)) (turns xs (held_entry (holder.EnclosedIn v.value.end)) stays);
+        steps = step.Send v.value.end (gains_one v.value.sent) bytes xs ∷ [];
+      })
+      (record (match_effect k table (sending_view v bytes xs) (gains_one v.value.sent) bytes xs) { steps = step.Send v.value.end (gains_one v.value.sent) bytes xs ∷ step.Match v.value.end (gains_one v.value.sent) ∷ [] })
+      (lives, tt)
+      (lives, (tt, tt))
 
   -- ---- Send
 
@@ -211,97 +220,95 @@ module _ (g : Setting) (i : ℕ) (w : World) (s : State) (k : ℕ) (p : Pid) (mi
 
   -- ---- Make
 
-  makes : (allowed : IsAllowed g w (Calls k p call.Make mine)) (goes : Goes i w s (Calls k p call.Make mine)) → IsGrantedCall call.Make → Goal call.Make goes
-  makes allowed goes granted =
-      same-traced (links_of (happens w (Calls k p call.Make mine))) target (state_after s goes.part).ends
-      (by-step g i w s k p call.Make mine is homes version room allowed goes traced granted (AreAsOpen target) (λ on is_so. as-open-on is_so on) (step.Make p (made_end k made) (opposite (made_end k made))) refl
-      (λ t stepped. subst (λ (z : State). AreAsOpen target z.ends) (sym stepped.after) (as-open-same target)))
-      (make-traced i w s k p mine is (subst (λ hs. p.0 < length hs) (sym homes) allowed.0) (ap (λ hs. slice_index hs p.0) homes ∙ allowed.1) allowed.2 granted traced)
-    where
-      abbrev target : EndId → End
-      target = (after_making s p (made_end k made)).ends
+  module _ (allowed : IsAllowed g w (Calls k p call.Make mine)) (goes : Goes i w s (Calls k p call.Make mine)) (granted : IsGrantedCall call.Make) where
+    abbrev new_ends : EndId → End
+    new_ends = (after_making s p (made_end k made)).ends
+
+    makes : Goal call.Make goes
+    makes =
+        same-traced (links_of (happens w (Calls k p call.Make mine))) new_ends (state_after s goes.part).ends
+        (by-step g i w s k p call.Make mine is homes version room allowed goes traced granted (AreAsOpen new_ends) (λ t v on is_so. as-open-on is_so on) (step.Make p (made_end k made) (opposite (made_end k made))) refl
+        (λ t stepped. subst (λ (z : State). AreAsOpen new_ends z.ends) (sym stepped.after) (as-open-same new_ends)))
+        (make-traced i w s k p mine is (subst (λ hs. p.0 < length hs) (sym homes) allowed.0) (ap (λ hs. slice_index hs p.0) homes ∙ allowed.1) allowed.2 granted traced)
 
   -- ---- Destroy
 
-  destroys-end : (on : EndId) (allowed : IsAllowed g w (Calls k p (call.Destroy on) mine)) (goes : Goes i w s (Calls k p (call.Destroy on) mine)) → IsGrantedCall (call.Destroy on) → Goal (call.Destroy on) goes
-  destroys-end on allowed goes granted =
-      same-traced (links_of (happens w (Calls k p (call.Destroy on) mine))) target (state_after s goes.part).ends
-      (by-step g i w s k p (call.Destroy on) mine is homes version room allowed goes traced granted (AreAsOpen target) (λ on is_so. as-open-on is_so on) (step.Destroy on) steps
-      (λ t stepped. subst (λ (z : State). AreAsOpen target z.ends) (sym stepped.after) (subst (AreAsOpen target) (destroys-one p on s.ends owns) (as-open-same target))))
-      (destroy-traced i w s k p mine is (subst (λ hs. p.0 < length hs) (sym homes) allowed.0) at_home allowed.2 on o.view o.there o.owner granted traced)
-    where
-      abbrev target : EndId → End
-      target = destroys_each p (on ∷ []) s.ends
+  module _ (on : EndId) (allowed : IsAllowed g w (Calls k p (call.Destroy on) mine)) (goes : Goes i w s (Calls k p (call.Destroy on) mine)) (granted : IsGrantedCall (call.Destroy on)) where
+    abbrev without_one : EndId → End
+    without_one = destroys_each p (on ∷ []) s.ends
 
-      at_home : home_of s p ≡ k
-      at_home = ap (λ hs. slice_index hs p.0) homes ∙ allowed.1
+    one-home : home_of s p ≡ k
+    one-home = ap (λ hs. slice_index hs p.0) homes ∙ allowed.1
 
-      o : IsGranted p table on
-      o = granted-on (is.setting.sound k) p on (first_of-none (destroy_causes (sees p table on)) granted).0
+    o : IsGranted p table on
+    o = granted-on (is.setting.sound k) p on (first_of-none (destroy_causes (sees p table on)) granted).0
 
-      owns : (s.ends on).place ≡ place.Owned p
-      owns = (is.stands.links.owned on p).1 (subst (λ j. IsHereAnd ((w.kernel j).table on) (λ v. v.holder ≡ holder.Owner p)) (sym at_home) (subst (λ y. IsHereAnd y (λ v. v.holder ≡ holder.Owner p)) (sym o.there) o.owner))
+    owns : (s.ends on).place ≡ place.Owned p
+    owns = (is.stands.links.owned on p).1 (subst (λ j. IsHereAnd ((w.kernel j).table on) (λ v. v.holder ≡ holder.Owner p)) (sym one-home) (subst (λ y. IsHereAnd y (λ v. v.holder ≡ holder.Owner p)) (sym o.there) o.owner))
 
-      steps : (act_effect p k made mine table (call.Destroy on)).steps ≡ step.Destroy on ∷ []
-      steps = by (owned p (table on)) refl
-        where
-          by : (z : Option HereView) → owned p (table on) ≡ z → (act_effect p k made mine table (call.Destroy on)).steps ≡ step.Destroy on ∷ []
-          by (Some v) is_so = ap (λ z. (effect_on z _).steps) is_so
-          by None is_so = absurd (let differ : None ≡ Some o.view = sym is_so ∙ owned-of p (table on) o.view o.there o.owner in cc)
+    one-step : (act_effect p k made mine table (call.Destroy on)).steps ≡ step.Destroy on ∷ []
+    one-step = ap (λ z. (effect_on z (λ v. record (ends_all k table (ended_with on (entry.Here v))) { steps = step.Destroy on ∷ [] })).steps) (owned-of p (table on) o.view o.there o.owner)
+
+    destroys-end : Goal (call.Destroy on) goes
+    destroys-end =
+        same-traced (links_of (happens w (Calls k p (call.Destroy on) mine))) without_one (state_after s goes.part).ends
+        (by-step g i w s k p (call.Destroy on) mine is homes version room allowed goes traced granted (AreAsOpen without_one) (λ t v on is_so. as-open-on is_so on) (step.Destroy on) one-step
+        (λ t stepped. subst (λ (z : State). AreAsOpen without_one z.ends) (sym stepped.after) (subst (AreAsOpen without_one) (destroys-one p on s.ends owns) (as-open-same without_one))))
+        (destroy-traced i w s k p mine is (subst (λ hs. p.0 < length hs) (sym homes) allowed.0) one-home allowed.2 on o.view o.there o.owner granted traced)
 
   -- ---- Exit
 
-  exits : (allowed : IsAllowed g w (Calls k p call.Exit mine)) (goes : Goes i w s (Calls k p call.Exit mine)) → IsGrantedCall call.Exit → Goal call.Exit goes
-  exits allowed goes granted =
-      same-traced (links_of (happens w (Calls k p call.Exit mine))) target now same
-      (exit-traced i w s k p mine is below at_home allowed.2 allowed.4 granted traced)
+  -- the same know of a death, and none is unmade
+  record IsLike (t : EndId → End) : Type 0 where
+    noticed : (q : EndId) → (t q).noticed ≡ (s.ends q).noticed
+    made : (q : EndId) → is_made (s.ends q).place ≡ true → is_made (t q).place ≡ true
+
+  like-on : (t v : EndId → End) → AreAsOpen t v → IsLike t → IsLike v
+  like-on t v on is_like = record { noticed = λ q. on.noticed q ∙ is_like.noticed q; made = λ q was. by q (is_living (t q).place) refl (is_like.made q was) }
     where
-      abbrev target : EndId → End
-      target = destroys_each p mine s.ends
+      by : (q : EndId) (b : Bool) → is_living (t q).place ≡ b → is_made (t q).place ≡ true → is_made (v q).place ≡ true
+      by q true lives was = living-made (v q).place (on.living q ∙ lives)
+      by q false gone was = ap (λ z. is_made z) (on.destroyed q (destroyed-so (t q).place was gone))
 
-      abbrev now : EndId → End
-      now = (state_after s goes.part).ends
+  of-kept : (theirs : List EndId) → IsLike (destroys_each p theirs s.ends)
+  of-kept theirs = let is_kept : AreKept s.ends (destroys_each p theirs s.ends) = destroys_each-kept p theirs s.ends in record { noticed = is_kept.noticed; made = λ q was. is_kept.made q ∙ was }
 
-      below : p.0 < length s.homes
-      below = subst (λ hs. p.0 < length hs) (sym homes) allowed.0
+  module _ (allowed : IsAllowed g w (Calls k p call.Exit mine)) (goes : Goes i w s (Calls k p call.Exit mine)) (granted : IsGrantedCall call.Exit) where
+    abbrev without_mine : EndId → End
+    without_mine = destroys_each p mine s.ends
 
-      at_home : home_of s p ≡ k
-      at_home = ap (λ hs. slice_index hs p.0) homes ∙ allowed.1
+    abbrev then_ends : EndId → End
+    then_ends = (state_after s goes.part).ends
 
-      -- the same know of a death, and none is unmade
-      record IsLike (t : EndId → End) : Type 0 where
-        noticed : (q : EndId) → (t q).noticed ≡ (s.ends q).noticed
-        made : (q : EndId) → is_made (s.ends q).place ≡ true → is_made (t q).place ≡ true
+    exit-below : p.0 < length s.homes
+    exit-below = subst (λ hs. p.0 < length hs) (sym homes) allowed.0
 
-      like-on : {t v : EndId → End} → AreAsOpen t v → IsLike t → IsLike v
-      like-on {t} {v} on is_like = record { noticed = λ q. on.noticed q ∙ is_like.noticed q; made = λ q was. by q (is_living (t q).place) refl (is_like.made q was) }
-        where
-          by : (q : EndId) (b : Bool) → is_living (t q).place ≡ b → is_made (t q).place ≡ true → is_made (v q).place ≡ true
-          by q true lives was = living-made (v q).place (on.living q ∙ lives)
-          by q false gone was = ap (λ z. is_made z) (on.destroyed q (destroyed-so (t q).place was gone))
+    exit-home : home_of s p ≡ k
+    exit-home = ap (λ hs. slice_index hs p.0) homes ∙ allowed.1
 
-      like : IsLike now
-      like =
-          by-step g i w s k p call.Exit mine is homes version room allowed goes traced granted IsLike like-on (step.Exit p) refl
-          (λ t stepped. subst (λ (z : State). IsLike z.ends) (sym stepped.after.after) (of-kept stepped.after.mine))
-        where
-          of-kept : (theirs : List EndId) → IsLike (destroys_each p theirs s.ends)
-          of-kept theirs = let is_kept = destroys_each-kept p theirs s.ends in record { noticed = is_kept.noticed; made = λ q was. is_kept.made q ∙ was }
+    like : IsLike then_ends
+    like =
+        by-step g i w s k p call.Exit mine is homes version room allowed goes traced granted IsLike like-on (step.Exit p) refl
+        (λ t stepped. subst (λ (z : State). IsLike z.ends) (sym stepped.after.after) (of-kept stepped.after.mine))
 
-      kept : AreKept s.ends target
-      kept = destroys_each-kept p mine s.ends
+    kept : AreKept s.ends without_mine
+    kept = destroys_each-kept p mine s.ends
 
-      living : (q : EndId) → is_living (now q).place ≡ is_living (target q).place
-      living q = one-same _ _ (sym (goes.after.stands.links.once q) ∙ exit-once i w s k p mine is below at_home allowed.2 allowed.4 granted traced q)
+    living : (q : EndId) → is_living (then_ends q).place ≡ is_living (without_mine q).place
+    living q =
+        one-same (is_living (then_ends q).place) (is_living (without_mine q).place)
+        (sym (goes.after.stands.links.once q) ∙ exit-once i w s k p mine is exit-below exit-home allowed.2 allowed.4 granted traced q)
 
-      same : AreAsOpen target now
-      same =
-          record {
-            living = living;
-            noticed = λ q. like.noticed q ∙ sym (kept.noticed q);
-            destroyed = λ q dead.
-                destroyed-so (now q).place (like.made q (sym (kept.made q) ∙ ap (λ z. is_made z) dead)) (living q ∙ ap (λ z. is_living z) dead);
-          }
+    exited : AreAsOpen without_mine then_ends
+    exited =
+        record {
+          living = living;
+          noticed = λ q. like.noticed q ∙ sym (kept.noticed q);
+          destroyed = λ q dead. destroyed-so (then_ends q).place (like.made q (sym (kept.made q) ∙ ap (λ z. is_made z) dead)) (living q ∙ ap (λ z. is_living z) dead);
+        }
+
+    exits : Goal call.Exit goes
+    exits = same-traced (links_of (happens w (Calls k p call.Exit mine))) without_mine then_ends exited (exit-traced i w s k p mine is exit-below exit-home allowed.2 allowed.4 granted traced)
 
 -- any call
 pub calls-traced : (g : Setting) (i : ℕ) (w : World) (s : State) (k : ℕ) (p : Pid) (c : Call) (mine : List EndId) → Invariant i w s → s.homes ≡ g.homes → s.version ≡ g.version → i < 2 ^ 31 → IsAllowed g w (Calls k p c mine) → (goes : Goes i w s (Calls k p c mine)) → AreTraced (links_of w) s.ends

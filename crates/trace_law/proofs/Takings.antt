@@ -28,7 +28,7 @@ use Rattle.end_table.specs.declared.entry.Inward.TheVariants as inward
 use Rattle.end_table.specs.declared.entry.Outward.{Outward}
 use Rattle.end_table.specs.declared.entry.Outward.TheVariants as outward
 use Rattle.kernel_effects.specs.Actions.{cancel_notice, ends_arrivals, receive_notice, send_notice}
-use Rattle.kernel_effects.specs.Effect.{Effect, for_holder, nothing}
+use Rattle.kernel_effects.specs.Effect.{Effect, for_holder, nothing, sent}
 use Rattle.kernel_effects.specs.Rows.{back_effect, back_steps, completes_effect, frees_effect, gone_effect, parcel_effect, receives_effect, returns_effect, returns_first_effect, row_effect, sends_back_effect, take_steps, taken_effect, unwanted_effect, unwanted_here_effect}
 use Rattle.kernel_outcomes.proofs.Sound.{arriving-all, passing-all}
 use Rattle.kernel_outcomes.specs.Closing.{AtMostOne, told}
@@ -38,7 +38,7 @@ use Rattle.kernel_sound.specs.Sound.{IsHeldWell, addressee}
 use Rattle.kernel_step.specs.Actions.{is_withdrawing, receive_report, send_report}
 use Rattle.kernel_step.specs.Kernel.{process_of}
 use Rattle.kernel_step.specs.Rows.{arriving, asks, awaits, ends_in, is_here, passing}
-use Rattle.kernel_world.specs.World.{Takes, World, happens, outcome}
+use Rattle.kernel_world.specs.World.{Takes, World, happens}
 use Rattle.service_step.specs.Ends.{is_living, returns}
 use Rattle.service_step.specs.Run.{IsRunFrom, state_after}
 use Rattle.service_step.specs.State.{State}
@@ -182,7 +182,7 @@ module _ (i : ℕ) (w : World) (s : State) (is : Invariant i w s) (room : i < 2 
     tamely is_tame = opened (row_effect k made from table what) (silent (row_effect k made from table what) refl is_tame.answers is_tame.reports) is_tame.plain
 
     -- or as one step leaves them
-    by-step : (P : (EndId → End) → Type 0) → ({t v : EndId → End} → AreAsOpen t v → P t → P v) → (f : Effect) (h : HasHappened f) (x : ServiceStep) → f.steps ≡ x ∷ [] → ((t : State) → IsServiceStep s x t → P t.ends) → P now
+    by-step : (P : (EndId → End) → Type 0) → ((t v : EndId → End) → AreAsOpen t v → P t → P v) → (f : Effect) (h : HasHappened f) (x : ServiceStep) → f.steps ≡ x ∷ [] → ((t : State) → IsServiceStep s x t → P t.ends) → P now
     by-step P on f h x one each =
         led P on s goes.part x (map (step.Report h.p) (told (process_of h.p (w.kernel k)).phase h.given h.rs)) is.service goes.run
         (steps-of f h ∙ ap (λ xs. xs ++ map (step.Report h.p) (told (process_of h.p (w.kernel k)).phase h.given h.rs)) one) (reports-plain h.p (told (process_of h.p (w.kernel k)).phase h.given h.rs)) each
@@ -359,176 +359,180 @@ module _ (i : ℕ) (w : World) (s : State) (is : Invariant i w s) (room : i < 2 
           held (packet.Taken to n j h) there (completes_effect k n j h v) (ap (taken_effect k n j h) found) to v here (awaits-here n (table to) v found).1 [] (send_report v.value.end outcome.Done [] ∷ []) (unanswered v.holder) refl
           tt
 
-  takes-parcel : (to : EndId) (m n j h : ℕ) (bytes : List ℕ) (ms : List MovingPicture) (there : First (packet.Parcel to m n j h bytes ms)) → (o : Option HereView) → asks n (table to) ≡ o → Goal
-  takes-parcel to m n j h bytes ms there = by
-    where
-      abbrev what : PictureWhat
-      what = packet.Parcel to m n j h bytes ms
+  module _ (to : EndId) (m n j h : ℕ) (bytes : List ℕ) (ms : List MovingPicture) (there : w.packets from k ≡ record { stamp = stamp; what = packet.Parcel to m n j h bytes ms } ∷ others) where
+    abbrev parcel : PictureWhat
+    parcel = packet.Parcel to m n j h bytes ms
 
-      carries : is_message_of (opposite to) what ≡ true
-      carries = ap (λ a. end_eq a to) (opposite-twice to) ∙ end_eq-refl to
+    parcel-coming : AreComing k made table ms
+    parcel-coming = values-come is k from (at parcel) others there (opposite to) (ap (λ a. end_eq a to) (opposite-twice to) ∙ end_eq-refl to) any
 
-      coming : AreComing k made table ms
-      coming = values-come is k from (at what) others there (opposite to) carries any
+    takes-parcel : (o : Option HereView) → asks n (table to) ≡ o → Goal
+    takes-parcel None none =
+        went-back-traced i w s is room k from stamp to m n j h bytes ms others there happened now (opened parcel there (sends_back_effect k to m j ms) (record { p = any; given = []; rs = []; happened = happened }) tt) traced
+      where
+        row : row_effect k made from table parcel ≡ sends_back_effect k to m j ms
+        row = ap (parcel_effect k made table to m j h bytes ms) none ∙ ap (sends_back_effect k to m j) (passing-all k made table ms parcel-coming)
 
-      by : (o : Option HereView) → asks n (table to) ≡ o → Goal
-      by None none =
-          went-back-traced i w s is room k from stamp to m n j h bytes ms others there happened now (opened what there (sends_back_effect k to m j ms) (record { p = any; given = []; rs = []; happened = happened }) tt) traced
-        where
-          row : row_effect k made from table what ≡ sends_back_effect k to m j ms
-          row = ap (parcel_effect k made table to m j h bytes ms) none ∙ ap (sends_back_effect k to m j) (passing-all k made table ms coming)
+        happened : Happens w (Takes k from) (taking w k from (at parcel) (sends_back_effect k to m j ms) any [] [])
+        happened = takes-allowed is k from (at parcel) others there (sends_back_effect k to m j ms) any [] [] row tt tt refl refl
+    takes-parcel (Some v) found =
+        received-traced i w s is k from stamp to m others ms v here now (opened parcel there (receives_effect k m j h bytes ms v) does (take-plain v.value.end m (is_withdrawing v.inward) v.holder)) traced n j h bytes there does.p does.given does.rs
+        does.happened
+      where
+        here : table to ≡ entry.Here v
+        here = (asks-here n (table to) v found).0
 
-          happened : Happens w (Takes k from) (taking w k from (at what) (sends_back_effect k to m j ms) any [] [])
-          happened = takes-allowed is k from (at what) others there (sends_back_effect k to m j ms) any [] [] row tt tt refl refl
-      by (Some v) found =
-          received-traced i w s is k from stamp to m others ms v here now (opened what there (receives_effect k m j h bytes ms v) does (take-plain v.value.end m (is_withdrawing v.inward) v.holder)) traced n j h bytes there does.p does.given does.rs
-          does.happened
-        where
-          here : table to ≡ entry.Here v
-          here = (asks-here n (table to) v found).0
+        row : row_effect k made from table parcel ≡ receives_effect k m j h bytes ms v
+        row = ap (parcel_effect k made table to m j h bytes ms) found ∙ ap (λ came. receives_effect k m j h bytes came v) (arriving-all k made v.holder table ms parcel-coming)
 
-          row : row_effect k made from table what ≡ receives_effect k m j h bytes ms v
-          row = ap (parcel_effect k made table to m j h bytes ms) found ∙ ap (λ came. receives_effect k m j h bytes came v) (arriving-all k made v.holder table ms coming)
+        does : HasHappened parcel there (receives_effect k m j h bytes ms v)
+        does =
+            held parcel there (receives_effect k m j h bytes ms v) row to v here (asks-here n (table to) v found).1 (if is_withdrawing v.inward then answer.Refused cause.Late ∷ [] else []) (receive_report v.value.end bytes (ends_in ms) ∷ [])
+            refl refl (late-one (is_withdrawing v.inward))
 
-          does : HasHappened what there (receives_effect k m j h bytes ms v)
-          does =
-              held what there (receives_effect k m j h bytes ms v) row to v here (asks-here n (table to) v found).1 (if is_withdrawing v.inward then answer.Refused cause.Late ∷ [] else []) (receive_report v.value.end bytes (ends_in ms) ∷ [])
-              refl refl (late-one (is_withdrawing v.inward))
+  module _ (to : EndId) (n : ℕ) (ms : List MovingPicture) (there : w.packets from k ≡ record { stamp = stamp; what = packet.Back to n ms } ∷ others) where
+    abbrev back : PictureWhat
+    back = packet.Back to n ms
 
-  takes-back : (to : EndId) (n : ℕ) (ms : List MovingPicture) (there : First (packet.Back to n ms)) → (o : Option HereView) → awaits n (table to) ≡ o → Goal
-  takes-back to n ms there = by
-    where
-      abbrev what : PictureWhat
-      what = packet.Back to n ms
+    back-coming : AreComing k made table ms
+    back-coming = values-come is k from (at back) others there to (end_eq-refl to) any
 
-      coming : AreComing k made table ms
-      coming = values-come is k from (at what) others there to (end_eq-refl to) any
+    -- its end is destroyed, and so are those that it carries
+    module _ (none : awaits n (table to) ≡ None) (dead : is_living (s.ends to).place ≡ false) where
+      abbrev dropping : Effect
+      dropping = record (ends_arrivals k ms) { steps = step.Back to n false ∷ [] }
 
-      differ : (v : HereView) → None ≡ Some v → ⊥
-      differ v same = cc
+      away : (y : Entry) → table to ≡ y → is_here y ≡ false
+      away (entry.Here v) at_k = absurd (true≢false (sym (here-living (length s.made) l s.ends is.setting.few is.links.named is.links.marked is.stands.links.once to k v at_k) ∙ dead))
+      away entry.Nothing at_k = refl
+      away (entry.Left a g) at_k = refl
+      away (entry.Destroyed m) at_k = refl
 
-      by : (o : Option HereView) → awaits n (table to) ≡ o → Goal
-      by None none = of_living (is_living (s.ends to).place) refl
-        where
-          of_living : (b : Bool) → is_living (s.ends to).place ≡ b → Goal
-          of_living true lives = let meets = back-meets i w s is k from stamp to n ms others there lives in absurd (differ meets.0 (sym none ∙ meets.1))
-          of_living false dead =
-              same-traced u (dropped i w s is k from stamp to n ms others there dead (step.Back to n false ∷ []) happened traced) now
-              (by-step what there (AreAsOpen (dropped i w s is k from stamp to n ms others there dead (step.Back to n false ∷ []) happened traced)) (λ on is_so. as-open-on is_so on) effect
-              (record { p = any; given = []; rs = []; happened = happened }) (step.Back to n false) refl
-              (λ t stepped. subst (λ (z : State). AreAsOpen (dropped i w s is k from stamp to n ms others there dead (step.Back to n false ∷ []) happened traced) z.ends) (sym stepped.after) (returns-dropped i w s is k from stamp to n ms others there dead (step.Back to n false ∷ []) happened traced)))
-              (back-dropped-traced i w s is k from stamp to n ms others there dead (step.Back to n false ∷ []) happened traced)
-            where
-              abbrev effect : Effect
-              effect = record (ends_arrivals k ms) { steps = step.Back to n false ∷ [] }
+      back-row : row_effect k made from table back ≡ dropping
+      back-row =
+          ap (back_effect k made table from to n ms) none ∙ ap (λ ps. record (ends_arrivals k ps) { steps = back_steps to n (is_here (table to)) ps }) (passing-all k made table ms back-coming)
+          ∙ ap (λ b. record (ends_arrivals k ms) { steps = back_steps to n b ms }) (away (table to) refl)
 
-              not-here : is_here (table to) ≡ false
-              not-here = away (table to) refl
-                where
-                  away : (y : Entry) → table to ≡ y → is_here y ≡ false
-                  away (entry.Here v) at_k = absurd (true≢false (sym (here-living (length s.made) l s.ends is.setting.few is.links.named is.links.marked is.stands.links.once to k v at_k) ∙ dead))
-                  away entry.Nothing at_k = refl
-                  away (entry.Left a g) at_k = refl
-                  away (entry.Destroyed m) at_k = refl
+      back-happened : Happens w (Takes k from) (taking w k from (at back) dropping any [] [])
+      back-happened = takes-allowed is k from (at back) others there dropping any [] [] back-row tt tt refl refl
 
-              row : row_effect k made from table what ≡ effect
-              row =
-                  ap (back_effect k made table from to n ms) none ∙ ap (λ ps. record (ends_arrivals k ps) { steps = back_steps to n (is_here (table to)) ps }) (passing-all k made table ms coming)
-                  ∙ ap (λ b. record (ends_arrivals k ms) { steps = back_steps to n b ms }) not-here
+      abbrev fallen : EndId → End
+      fallen = dropped i w s is k from stamp to n ms others there dead (step.Back to n false ∷ []) back-happened traced
 
-              happened : Happens w (Takes k from) (taking w k from (at what) effect any [] [])
-              happened = takes-allowed is k from (at what) others there effect any [] [] row tt tt refl refl
+      fell : AreAsOpen fallen now
+      fell =
+          by-step back there (AreAsOpen fallen) (λ t v on is_so. as-open-on is_so on) dropping (record { p = any; given = []; rs = []; happened = back-happened }) (step.Back to n false) refl
+          (λ t stepped. subst (λ (z : State). AreAsOpen fallen z.ends) (sym stepped.after) (returns-dropped i w s is k from stamp to n ms others there dead (step.Back to n false ∷ []) back-happened traced))
 
-      by (Some v) found = of_dead v.value.dead refl
-        where
-          here : table to ≡ entry.Here v
-          here = (awaits-here n (table to) v found).0
+      falls : Goal
+      falls = same-traced u fallen now fell (back-dropped-traced i w s is k from stamp to n ms others there dead (step.Back to n false ∷ []) back-happened traced)
 
-          lives : is_living (s.ends to).place ≡ true
-          lives = here-living (length s.made) l s.ends is.setting.few is.links.named is.links.marked is.stands.links.once to k v here
+    differ : (v : HereView) → None ≡ Some v → ⊥
+    differ v same = cc
 
-          knows : v.value.dead ≡ (s.ends to).noticed
-          knows = (is.links.counted to).dead (At k) v.value lives (ap value_of here)
+    takes-back : (o : Option HereView) → awaits n (table to) ≡ o → Goal
+    takes-back None none = of_living (is_living (s.ends to).place) refl
+      where
+        of_living : (b : Bool) → is_living (s.ends to).place ≡ b → Goal
+        of_living true lives = let meets = back-meets i w s is k from stamp to n ms others there lives in absurd (differ meets.0 (sym none ∙ meets.1))
+        of_living false dead = falls none dead
+    takes-back (Some v) found = of_dead v.value.dead refl
+      where
+        here : table to ≡ entry.Here v
+        here = (awaits-here n (table to) v found).0
 
-          row : (b : Bool) → v.value.dead ≡ b → row_effect k made from table what ≡ (if b then returns_effect k to n ms v else returns_first_effect k from to n ms v)
-          row b same =
-              ap (back_effect k made table from to n ms) found ∙ ap (λ came. if v.value.dead then returns_effect k to n came v else returns_first_effect k from to n came v) (arriving-all k made v.holder table ms coming)
-              ∙ ap (λ a. if a then returns_effect k to n ms v else returns_first_effect k from to n ms v) same
+        lives : is_living (s.ends to).place ≡ true
+        lives = here-living (length s.made) l s.ends is.setting.few is.links.named is.links.marked is.stands.links.once to k v here
 
-          of_dead : (b : Bool) → v.value.dead ≡ b → Goal
-          of_dead true dead =
-              returned-traced i w s is k from stamp to n others ms v here now
-              (by-step what there (AreAsOpen s.ends) (λ on is_so. as-open-on is_so on) (returns_effect k to n ms v) does (step.Back to n false) refl
-              (λ t stepped. subst (λ (z : State). AreAsOpen s.ends z.ends) (sym stepped.after) (returns-open s is.service to lives (sym knows ∙ dead)))) traced there does.p does.given does.rs does.happened
-            where
-              does : HasHappened what there (returns_effect k to n ms v)
-              does =
-                  held what there (returns_effect k to n ms v) (row true dead) to v here (awaits-here n (table to) v found).1 [] (send_report v.value.end outcome.Destroyed (ends_in ms) ∷ []) (unanswered v.holder) refl tt
-          of_dead false alive =
-              first-returned-traced i w s is k from stamp to n others ms v here alive there does.p does.given does.rs does.happened now
-              (by-step what there (AreAsOpen (aware to s.ends)) (λ on is_so. as-open-on is_so on) (returns_first_effect k from to n ms v) does (step.Back to n (is_withdrawing v.inward)) refl
-              (λ t stepped. subst (λ (z : State). AreAsOpen (aware to s.ends) z.ends) (sym stepped.after) (returns-aware s is.service to lives (sym knows ∙ alive)))) traced
-            where
-              does : HasHappened what there (returns_first_effect k from to n ms v)
-              does =
-                  held what there (returns_first_effect k from to n ms v) (row false alive) to v here (awaits-here n (table to) v found).1 (cancel_notice v.inward)
-                  (send_report v.value.end outcome.Destroyed (ends_in ms) ∷ receive_notice v.value.end v.inward) refl refl (cancel-one v.inward)
+        knows : v.value.dead ≡ (s.ends to).noticed
+        knows = (is.links.counted to).dead (At k) v.value lives (ap value_of here)
 
-  takes-gone : (to : EndId) (j : ℕ) (there : First (packet.Gone to j)) → (y : Entry) → table to ≡ y → Goal
-  takes-gone to j there = by
-    where
-      abbrev what : PictureWhat
-      what = packet.Gone to j
+        row : (b : Bool) → v.value.dead ≡ b → row_effect k made from table back ≡ (if b then returns_effect k to n ms v else returns_first_effect k from to n ms v)
+        row b same =
+            ap (back_effect k made table from to n ms) found ∙ ap (λ came. if v.value.dead then returns_effect k to n came v else returns_first_effect k from to n came v) (arriving-all k made v.holder table ms back-coming)
+            ∙ ap (λ a. if a then returns_effect k to n ms v else returns_first_effect k from to n ms v) same
 
-      quietly : (f : Effect) → row_effect k made from table what ≡ f → f.answers ≡ [] → f.reports ≡ [] → AllByRecursion IsPlainStep f.steps → AreAsOpen s.ends now
-      quietly f row answers reports plain = opened what there f (silent what there f row answers reports) plain
+        knowing : v.value.dead ≡ true → HasHappened back there (returns_effect k to n ms v)
+        knowing dead =
+            held back there (returns_effect k to n ms v) (row true dead) to v here (awaits-here n (table to) v found).1 [] (send_report v.value.end outcome.Destroyed (ends_in ms) ∷ []) (unanswered v.holder) refl tt
 
-      by : (z : Entry) → table to ≡ z → Goal
-      by entry.Nothing here = drops what there (quietly _ (ap (gone_effect k to j) here) refl refl tt) (subst (IsDropped what) (sym here) tt)
-      by (entry.Left a g) here = passed-traced i w s is k from (at what) others there now (quietly _ (ap (gone_effect k to j) here) refl refl tt) traced tt a g here
-      by (entry.Destroyed m) here = same-traced u s.ends now (quietly _ (ap (gone_effect k to j) here) refl refl tt) (erased-traced i w s is k from (at what) others there tt m here traced)
-      by (entry.Here v) here = of_dead v.value.dead refl
-        where
-          of_dead : (b : Bool) → v.value.dead ≡ b → Goal
-          of_dead true dead =
-              same-traced u s.ends now (quietly _ (ap (gone_effect k to j) here ∙ chosen v.value.dead _ _ dead) refl refl tt) (dead-gone-traced i w s is k from stamp to j others there v here dead traced)
-          of_dead false alive = noticed-traced i w s is k from stamp to j others there v here does.p does.given does.rs does.happened now dying traced
-            where
-              abbrev f : Effect
-              f = noticing i w s is k from stamp to j others there v here
+        hearing : v.value.dead ≡ false → HasHappened back there (returns_first_effect k from to n ms v)
+        hearing alive =
+            held back there (returns_first_effect k from to n ms v) (row false alive) to v here (awaits-here n (table to) v found).1 (cancel_notice v.inward)
+            (send_report v.value.end outcome.Destroyed (ends_in ms) ∷ receive_notice v.value.end v.inward) refl refl (cancel-one v.inward)
 
-              row : row_effect k made from table what ≡ f
-              row = ap (gone_effect k to j) here ∙ passed-over v.value.dead _ f alive
+        of_dead : (b : Bool) → v.value.dead ≡ b → Goal
+        of_dead true dead =
+            let does = knowing dead in
+            returned-traced i w s is k from stamp to n others ms v here now
+            (by-step back there (AreAsOpen s.ends) (λ t v on is_so. as-open-on is_so on) (returns_effect k to n ms v) does (step.Back to n false) refl
+            (λ t stepped. subst (λ (z : State). AreAsOpen s.ends z.ends) (sym stepped.after) (returns-open s is.service to lives (sym knows ∙ dead)))) traced there does.p does.given does.rs does.happened
+        of_dead false alive =
+            let does = hearing alive in
+            first-returned-traced i w s is k from stamp to n others ms v here alive there does.p does.given does.rs does.happened now
+            (by-step back there (AreAsOpen (aware to s.ends)) (λ t v on is_so. as-open-on is_so on) (returns_first_effect k from to n ms v) does (step.Back to n (is_withdrawing v.inward)) refl
+            (λ t stepped. subst (λ (z : State). AreAsOpen (aware to s.ends) z.ends) (sym stepped.after) (returns-aware s is.service to lives (sym knows ∙ alive)))) traced
 
-              told-one : (IsIdle v → ⊥) → HasHappened what there f
-              told-one busy = held what there f row to v here busy (cancel_notice v.inward) (send_notice v.value.end v.outward ++ receive_notice v.value.end v.inward) refl refl (cancel-one v.inward)
+  module _ (to : EndId) (j : ℕ) (there : w.packets from k ≡ record { stamp = stamp; what = packet.Gone to j } ∷ others) where
+    abbrev gone : PictureWhat
+    gone = packet.Gone to j
 
-              idle-told : (o : Outward) (a : Inward) → v.outward ≡ o → v.inward ≡ a → HasHappened what there f
-              idle-told outward.Idle inward.Idle is_o is_a =
-                  silent what there f row (ap (λ z. for_holder v.holder (cancel_notice z)) is_a ∙ sym (unanswered v.holder))
-                  (ap (λ z. for_holder v.holder (send_notice v.value.end z ++ receive_notice v.value.end v.inward)) is_o ∙ ap (λ z. for_holder v.holder (receive_notice v.value.end z)) is_a ∙ sym (nobody v.holder))
-              idle-told outward.Idle (inward.Posted n) is_o is_a = told-one (λ idle. absurd (let differ : inward.Posted n ≡ inward.Idle = sym is_a ∙ idle.inward in cc))
-              idle-told outward.Idle (inward.Withdrawing n) is_o is_a = told-one (λ idle. absurd (let differ : inward.Withdrawing n ≡ inward.Idle = sym is_a ∙ idle.inward in cc))
-              idle-told outward.Idle inward.Unreported is_o is_a = told-one (λ idle. absurd (let differ : inward.Unreported ≡ inward.Idle = sym is_a ∙ idle.inward in cc))
-              idle-told (outward.Waiting n bytes xs) a is_o is_a = told-one (λ idle. absurd (let differ : outward.Waiting n bytes xs ≡ outward.Idle = sym is_o ∙ idle.outward in cc))
-              idle-told (outward.Matched n) a is_o is_a = told-one (λ idle. absurd (let differ : outward.Matched n ≡ outward.Idle = sym is_o ∙ idle.outward in cc))
-              idle-told outward.Unreported a is_o is_a = told-one (λ idle. absurd (let differ : outward.Unreported ≡ outward.Idle = sym is_o ∙ idle.outward in cc))
+    quietly : (f : Effect) → row_effect k made from table gone ≡ f → f.answers ≡ [] → f.reports ≡ [] → AllByRecursion IsPlainStep f.steps → AreAsOpen s.ends now
+    quietly f row answers reports plain = opened gone there f (silent gone there f row answers reports) plain
 
-              does : HasHappened what there f
-              does = idle-told v.outward v.inward refl refl
+    -- at an end that did not know of the death
+    module _ (v : HereView) (here : table to ≡ entry.Here v) (alive : v.value.dead ≡ false) where
+      abbrev notes : Effect
+      notes = noticing i w s is k from stamp to j others there v here
 
-              own : v.value.end ≡ to
-              own = subst (IsOfEnd to) here ((is.setting.sound k).own to)
+      notes-row : row_effect k made from table gone ≡ notes
+      notes-row = ap (gone_effect k to j) here ∙ passed-over v.value.dead (sent ((j, packet.GoneSeen (opposite v.value.end)) ∷ [])) notes alive
 
-              lives : is_living (s.ends v.value.end).place ≡ true
-              lives = here-living (length s.made) l s.ends is.setting.few is.links.named is.links.marked is.stands.links.once v.value.end k v (ap table own ∙ here)
+      told-one : (IsIdle v → ⊥) → HasHappened gone there notes
+      told-one busy = held gone there notes notes-row to v here busy (cancel_notice v.inward) (send_notice v.value.end v.outward ++ receive_notice v.value.end v.inward) refl refl (cancel-one v.inward)
 
-              dying : IsDying s.ends now to
-              dying =
-                  aware-dying to s.ends now
-                  (subst (λ z. AreAsOpen (aware z s.ends) now) own
-                  (by-step what there (AreAsOpen (aware v.value.end s.ends)) (λ on is_so. as-open-on is_so on) f does (step.Notice v.value.end (is_withdrawing v.inward)) refl
-                  (λ t stepped. subst (λ (z : State). AreAsOpen (aware v.value.end s.ends) z.ends) (sym stepped.after) (notices-aware s is.service v.value.end lives))))
+      told-all : (o : Outward) (a : Inward) → v.outward ≡ o → v.inward ≡ a → HasHappened gone there notes
+      told-all outward.Idle inward.Idle is_o is_a =
+          silent gone there notes notes-row (ap (λ z. for_holder v.holder (cancel_notice z)) is_a ∙ sym (unanswered v.holder))
+          (ap (λ z. for_holder v.holder (send_notice v.value.end z ++ receive_notice v.value.end v.inward)) is_o ∙ ap (λ z. for_holder v.holder (receive_notice v.value.end z)) is_a ∙ sym (nobody v.holder))
+      told-all outward.Idle (inward.Posted n) is_o is_a = told-one (λ idle. absurd (let differ : inward.Posted n ≡ inward.Idle = sym is_a ∙ idle.inward in cc))
+      told-all outward.Idle (inward.Withdrawing n) is_o is_a = told-one (λ idle. absurd (let differ : inward.Withdrawing n ≡ inward.Idle = sym is_a ∙ idle.inward in cc))
+      told-all outward.Idle inward.Unreported is_o is_a = told-one (λ idle. absurd (let differ : inward.Unreported ≡ inward.Idle = sym is_a ∙ idle.inward in cc))
+      told-all (outward.Waiting n bytes xs) a is_o is_a = told-one (λ idle. absurd (let differ : outward.Waiting n bytes xs ≡ outward.Idle = sym is_o ∙ idle.outward in cc))
+      told-all (outward.Matched n) a is_o is_a = told-one (λ idle. absurd (let differ : outward.Matched n ≡ outward.Idle = sym is_o ∙ idle.outward in cc))
+      told-all outward.Unreported a is_o is_a = told-one (λ idle. absurd (let differ : outward.Unreported ≡ outward.Idle = sym is_o ∙ idle.outward in cc))
+
+      does : HasHappened gone there notes
+      does = told-all v.outward v.inward refl refl
+
+      own : v.value.end ≡ to
+      own = subst (IsOfEnd to) here ((is.setting.sound k).own to)
+
+      lives : is_living (s.ends v.value.end).place ≡ true
+      lives = here-living (length s.made) l s.ends is.setting.few is.links.named is.links.marked is.stands.links.once v.value.end k v (ap table own ∙ here)
+
+      dying : IsDying s.ends now to
+      dying =
+          aware-dying to s.ends now
+          (subst (λ z. AreAsOpen (aware z s.ends) now) own
+          (by-step gone there (AreAsOpen (aware v.value.end s.ends)) (λ t v on is_so. as-open-on is_so on) notes does (step.Notice v.value.end (is_withdrawing v.inward)) refl
+          (λ t stepped. subst (λ (z : State). AreAsOpen (aware v.value.end s.ends) z.ends) (sym stepped.after) (notices-aware s is.service v.value.end lives))))
+
+      hears : Goal
+      hears = noticed-traced i w s is k from stamp to j others there v here does.p does.given does.rs does.happened now dying traced
+
+    takes-gone : (y : Entry) → table to ≡ y → Goal
+    takes-gone entry.Nothing here = drops gone there (quietly nothing (ap (gone_effect k to j) here) refl refl tt) (subst (IsDropped gone) (sym here) tt)
+    takes-gone (entry.Left a g) here = passed-traced i w s is k from (at gone) others there now (quietly (sent ((a, packet.Gone to j) ∷ [])) (ap (gone_effect k to j) here) refl refl tt) traced tt a g here
+    takes-gone (entry.Destroyed m) here = same-traced u s.ends now (quietly (gone_effect k to j (entry.Destroyed m)) (ap (gone_effect k to j) here) refl refl tt) (erased-traced i w s is k from (at gone) others there tt m here traced)
+    takes-gone (entry.Here v) here = of_dead v.value.dead refl
+      where
+        of_dead : (b : Bool) → v.value.dead ≡ b → Goal
+        of_dead true dead =
+            same-traced u s.ends now
+            (quietly (sent ((j, packet.GoneSeen (opposite v.value.end)) ∷ [])) (ap (gone_effect k to j) here ∙ chosen v.value.dead (sent ((j, packet.GoneSeen (opposite v.value.end)) ∷ [])) (noticing i w s is k from stamp to j others there v here) dead) refl refl tt)
+            (dead-gone-traced i w s is k from stamp to j others there v here dead traced)
+        of_dead false alive = hears v here alive
 
   -- ---- any packet
 
