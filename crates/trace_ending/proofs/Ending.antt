@@ -1,6 +1,6 @@
--- Ends that are here are destroyed, which keeps all that is true of the traces of ends: a chain that led to an end leads to its mark, and the gone that
+-- Ends are destroyed that are here, or came in the packet that is taken, which keeps all that is true of the traces of ends: a chain that led to an end leads to its mark, and the gone that
 -- is sent is on the track of the opposite.
-use Rattle.std.proofs.Common.{◌≡◌, ◌≢◌, ◌⊎◌, inl, inr, ℕ, ◌+◌, ◌≤◌, Bool, true, false, true≢false, nat_eq, ◌&&◌, if◌then◌else◌, Some, None, length, Contains, refl, sym, ap, subst, ◌∙◌, arith}
+use Rattle.std.proofs.Common.{◌≡◌, ◌≢◌, ◌⊎◌, inl, inr, ℕ, ◌<◌, ◌≤◌, Bool, true, false, true≢false, nat_eq, ◌&&◌, if◌then◌else◌, Some, IfSome, List, length, Contains, refl, sym, ap, subst, ◌∙◌, arith}
 use Rattle.std.proofs.lemmas.Bool.Decides.{eqb_tells}
 use Rattle.std.proofs.lemmas.List.Elements.{All-contains}
 use Rattle.charlotte_calls.specs.Names.{opposite}
@@ -14,26 +14,25 @@ use Rattle.end_table.specs.Table.{IsHereAnd}
 use Rattle.end_table.specs.declared.entry.Entry.{Entry}
 use Rattle.end_table.specs.declared.entry.Entry.TheVariants as entry
 use Rattle.end_table.specs.declared.entry.HereView.{HereView}
-use Rattle.kernel_step.specs.Rows.{is_here}
+use Rattle.kernel_step.specs.Rows.{ends_in}
 use Rattle.service_lawful.specs.Consistent.{is_open}
 use Rattle.service_step.specs.Ends.{is_living}
 use Rattle.service_step.specs.State.{Process, State}
 use Rattle.service_step.specs.declared.state.End.{End}
 use Rattle.service_step.specs.declared.state.Place.TheVariants as place
-use Rattle.theorem_effects.proofs.Aside.{fields-same, sent-each}
-use Rattle.theorem_effects.proofs.Packets.{each-after}
+use Rattle.theorem_effects.proofs.Aside.{ends_in-there, fields-same, not_among, sent-each}
+use Rattle.theorem_effects.proofs.Packets.{each-after, taken-before}
 use Rattle.theorem_effects.specs.Change.{Change, Changes}
-use Rattle.theorem_effects.specs.Sums.{sum_taken}
 use Rattle.theorem_effects.specs.Under.{IsSent, IsTaken}
 use Rattle.theorem_ends_destroyed.proofs.Facts.{fields-was, heard-was, living-was, noticed-same, open-living, open-was, other-entry, packet-was, place-ended, place-other, unbrought}
-use Rattle.theorem_ends_destroyed.specs.Ending.{IsEnding, IsToldOf as TellsOf}
+use Rattle.theorem_ends_destroyed.specs.Ending.{IsEnding, IsReturnOf, IsToldOf as TellsOf}
 use Rattle.theorem_meaning.proofs.Ends.{opposite-twice}
 use Rattle.theorem_meaning.proofs.Plain.{there-here}
-use Rattle.theorem_meaning.specs.Fields.{At, HasFields, IsAskedAs, IsAsking, IsUnserved, Stand, value_of}
+use Rattle.theorem_meaning.specs.Fields.{At, Flying, HasFields, IsAskedAs, IsAsking, IsUnserved, Stand, value_of}
 use Rattle.theorem_meaning.specs.Invariant.{AreRight, IsPacketRight}
-use Rattle.theorem_meaning.specs.Packets.{Each, IsUnderWay, Links, one_if, values_for, values_of}
+use Rattle.theorem_meaning.specs.Packets.{Each, IsUnderWay, Links, one_if, values_of}
 use Rattle.theorem_meaning.specs.StandsFor.{entry_at, standing}
-use Rattle.theorem_take_silent.proofs.Places.{fields-here, here-kernel, here-living}
+use Rattle.theorem_take_silent.proofs.Places.{here-living}
 use Rattle.trace_ending.specs.Telling.{AreTold, IsGoneAt}
 use Rattle.trace_events.proofs.Clauses.{announced-on, known-on, left-on, mark-on, reached-on, seen-on, under_way-or}
 use Rattle.trace_events.proofs.Open.{destroyed-closed, open-free, open-lives, open-so, opposite-free}
@@ -42,7 +41,7 @@ use Rattle.trace_events.specs.Had.{HasSome}
 use Rattle.trace_events.specs.Leading.{IsLeading}
 use Rattle.trace_meaning.proofs.Chains.{chain-mark}
 use Rattle.trace_meaning.specs.Traces.{AreTraced, IsAnnounced, IsKnownRight, IsLeftRight, IsMarkRight, IsMet, IsMourned, IsReached, IsSeenRight, IsToldOf, IsTraceRight, IsTrailed}
-use Rattle.trace_meaning.specs.Words.{HasChain, HasMark, IsBackTo, IsForgetOf, IsGoneFrom, IsGoneSeen, IsKnownOf, IsParcelTo, IsSought, LeadsOn}
+use Rattle.trace_meaning.specs.Words.{HasChain, HasMark, IsBackTo, IsForgetOf, IsGoneFrom, IsGoneSeen, IsKnownOf, IsMovedTo, IsParcelTo, IsSought, LeadsOn}
 
 -- ---- packets that were right
 
@@ -77,22 +76,18 @@ gone-ended : (ended : EndId → Bool) (e : EndId) (j : ℕ) (q : PictureWhat) �
 gone-ended ended e j (packet.Gone to at) told its = subst (λ z. ended z ≡ true) (ap opposite its.0 ∙ opposite-twice e) told
 gone-ended ended e j _ told its = absurd its
 
-there-so : (y : Entry) (n : ℕ) → one_if (is_here y) + n ≡ 1 → n ≡ 0 → (v : HereView) × (y ≡ entry.Here v)
-there-so (entry.Here v) n one none = (v, refl)
-there-so entry.Nothing n one none = absurd (omega (arith, one, none))
-there-so (entry.Left to hops) n one none = absurd (omega (arith, one, none))
-there-so (entry.Destroyed m) n one none = absurd (omega (arith, one, none))
-
-none-some : (a : ℕ × Picture) → None ≡ Some a → ⊥
-none-some a same = cc
-
-module _ {ended : EndId → Bool} {w u : Links} {c : Change} {s : State} {t : EndId → End} {g : ℕ → Process} (b : Changes w c u) (x : IsEnding ended w c s t g) (told : AreTold ended w c) (i : ℕ) (few : length s.made ≤ 8) (right : AreRight i w s)
+module _ {ended : EndId → Bool} {w u : Links} {c : Change} {s : State} {t : EndId → End} {g : ℕ → Process} (b : Changes w c u) (x : IsEnding ended w c s t g) (told : AreTold x) (i : ℕ) (few : length s.made ≤ 8) (right : AreRight i w s)
     (once : (e : EndId) → standing w e ≡ one_if (is_living (s.ends e).place)) (deaths : (e : EndId) → (s.ends e).noticed ≡ true → (s.ends (opposite e)).place ≡ place.Destroyed) (traced : AreTraced w s.ends) where
   abbrev k : ℕ
   k = c.kernel
 
-  untaken : (P : PictureWhat → Type 0) → IsTaken c P → ⊥
-  untaken P z = none-some (z.from, z.packet) (sym told.taken ∙ z.taken)
+  -- a packet that is taken is a back
+  untaken : (P : PictureWhat → Type 0) → ((f : EndId) (n : ℕ) (ms : List MovingPicture) → P (packet.Back f n ms) → ⊥) → IsTaken c P → ⊥
+  untaken P none z = by z.packet.what (subst (λ y. IfSome y (λ q. IsReturnOf ended q.1.what)) z.taken x.taken) z.is
+    where
+      by : (q : PictureWhat) → IsReturnOf ended q → P q → ⊥
+      by (packet.Back f n ms) brings is = none f n ms is
+      by _ brings is = absurd brings
 
   lives : (j : ℕ) (e : EndId) (v : HereView) → entry_at w j e ≡ entry.Here v → is_living (s.ends e).place ≡ true
   lives j e v here = here-living (length s.made) w s.ends few right.named right.marked once e j v here
@@ -100,26 +95,32 @@ module _ {ended : EndId → Bool} {w u : Links} {c : Change} {s : State} {t : En
   not-marked : (j : ℕ) (e : EndId) (m : MovingPicture) → entry_at w j e ≡ entry.Destroyed m → is_living (s.ends e).place ≡ true → ⊥
   not-marked j e m mark living = true≢false (sym living ∙ ap is_living ((right.marked e).destroyed j m mark))
 
-  -- ---- an end that is destroyed: it was here, and its mark is its value
+  -- ---- an end that is destroyed: its mark is its value
 
-  view : (e : EndId) → ended e ≡ true → (v : HereView) × (entry_at w k e ≡ entry.Here v)
-  view e on = there-so (entry_at w k e) (sum_taken (λ q. values_for e (values_of q)) c.taken) (x.are e on).stood (ap (sum_taken (λ q. values_for e (values_of q))) told.taken)
+  abbrev value : (e : EndId) → ended e ≡ true → MovingPicture
+  value e on = (x.are e on).fields
 
-  left : (e : EndId) (on : ended e ≡ true) → entry_at u k e ≡ ended_entry (view e on).0.value
-  left e on =
-      let v = view e on in
-      b.entry e ∙ (x.are e on).now ∙ ap ended_entry (fields-here (length s.made) w s.ends few right.named right.marked once e k v.0 (x.are e on).stand (x.are e on).fields v.1 (x.are e on).had).1
+  left : (e : EndId) (on : ended e ≡ true) → entry_at u k e ≡ ended_entry (value e on)
+  left e on = b.entry e ∙ (x.are e on).now
 
-  view-dead : (e : EndId) (v : HereView) → entry_at w k e ≡ entry.Here v → v.value.dead ≡ (s.ends e).noticed
-  view-dead e v here = (right.counted e).dead (At k) v.value (lives k e v here) (ap value_of here)
+  knows : (e : EndId) (on : ended e ≡ true) → (value e on).dead ≡ (s.ends e).noticed
+  knows e on = (right.counted e).dead (x.are e on).stand (value e on) (told.each e on).lives (x.are e on).had
 
   -- one that is sought did not know of the death, and leaves a mark
-  alive : (e : EndId) (v : HereView) → entry_at w k e ≡ entry.Here v → IsSought w s.ends e → v.value.dead ≡ false
-  alive e v here (inl open_is) = view-dead e v here ∙ open-free (s.ends e) open_is
-  alive e v here (inr z) = absurd (not-marked z.at e z.mark z.there (lives k e v here))
+  alive : (e : EndId) (on : ended e ≡ true) → IsSought w s.ends e → (value e on).dead ≡ false
+  alive e on (inl open_is) = knows e on ∙ open-free (s.ends e) open_is
+  alive e on (inr z) = absurd (not-marked z.at e z.mark z.there (told.each e on).lives)
 
-  mark-there : (e : EndId) (on : ended e ≡ true) → (view e on).0.value.dead ≡ false → entry_at u k e ≡ entry.Destroyed (view e on).0.value
-  mark-there e on free = left e on ∙ ap (λ a. if a then entry.Nothing else entry.Destroyed (view e on).0.value) free
+  mark-there : (e : EndId) (on : ended e ≡ true) → (value e on).dead ≡ false → entry_at u k e ≡ entry.Destroyed (value e on)
+  mark-there e on free = left e on ∙ ap (λ a. if a then entry.Nothing else entry.Destroyed (value e on)) free
+
+  -- it was at the kernel, or in a packet
+  near-kernel : (e : EndId) (on : ended e ≡ true) (j : ℕ) (m : MovingPicture) → HasFields w e (At j) m → j ≡ k
+  near-kernel e on j m has = by ((told.each e on).alone (At j) m has).0
+    where
+      by : (At j ≡ At k) ⊎ (At j ≡ Flying) → j ≡ k
+      by (inl same) = (cc)
+      by (inr flies) = absurd (cc)
 
   -- ---- ends that are sought
 
@@ -128,7 +129,7 @@ module _ {ended : EndId → Bool} {w u : Links} {c : Change} {s : State} {t : En
     where
       by : (a : Bool) → ended e ≡ a → HasMark u e
       by false off = record { at = z.at; mark = z.mark; there = other-entry b x z.at e off ∙ z.there }
-      by true on = absurd (not-marked z.at e z.mark z.there (lives k e (view e on).0 (view e on).1))
+      by true on = absurd (not-marked z.at e z.mark z.there (told.each e on).lives)
 
   sought-still : (e : EndId) → IsSought w s.ends e → IsSought u t e
   sought-still e (inr z) = inr (mark-still e z)
@@ -137,7 +138,7 @@ module _ {ended : EndId → Bool} {w u : Links} {c : Change} {s : State} {t : En
       by : (a : Bool) → ended e ≡ a → IsSought u t e
       by false off =
           inl ((λ r. is_living (place-other b x e off r) && (if noticed-same b x e r then false else true)) ∙ open_is)
-      by true on = inr (record { at = k; mark = (view e on).0.value; there = mark-there e on (alive e (view e on).0 (view e on).1 (inl open_is)) })
+      by true on = inr (record { at = k; mark = value e on; there = mark-there e on (alive e on (inl open_is)) })
 
   sought-was : (e : EndId) → IsSought u t e → IsSought w s.ends e
   sought-was e (inl open_is) = inl (open-was b x e open_is)
@@ -145,12 +146,12 @@ module _ {ended : EndId → Bool} {w u : Links} {c : Change} {s : State} {t : En
     where
       marked : (on : ended e ≡ true) → ((nat_eq z.at k ≡ true) × (z.at ≡ k)) ⊎ ((nat_eq z.at k ≡ false) × (z.at ≢ k)) → IsSought w s.ends e
       marked on (inr far) = inr (record { at = z.at; mark = z.mark; there = sym (b.others z.at e far.0) ∙ z.there })
-      marked on (inl near) = which (view e on).0.value.dead refl
+      marked on (inl near) = which (value e on).dead refl
         where
-          which : (a : Bool) → (view e on).0.value.dead ≡ a → IsSought w s.ends e
-          which false free = inl (open-so (s.ends e) (lives k e (view e on).0 (view e on).1) (sym (view-dead e (view e on).0 (view e on).1) ∙ free))
+          which : (a : Bool) → (value e on).dead ≡ a → IsSought w s.ends e
+          which false free = inl (open-so (s.ends e) (told.each e on).lives (sym (knows e on) ∙ free))
           which true dead =
-              absurd (let differ : entry.Nothing ≡ entry.Destroyed z.mark = sym (left e on ∙ ap (λ a. if a then entry.Nothing else entry.Destroyed (view e on).0.value) dead) ∙ ap (λ j. entry_at u j e) (sym near.1) ∙ z.there in cc)
+              absurd (let differ : entry.Nothing ≡ entry.Destroyed z.mark = sym (left e on ∙ ap (λ a. if a then entry.Nothing else entry.Destroyed (value e on)) dead) ∙ ap (λ j. entry_at u j e) (sym near.1) ∙ z.there in cc)
 
       by : (a : Bool) → ended e ≡ a → IsSought w s.ends e
       by false off = inr (record { at = z.at; mark = z.mark; there = sym (other-entry b x z.at e off) ∙ z.there })
@@ -167,22 +168,38 @@ module _ {ended : EndId → Bool} {w u : Links} {c : Change} {s : State} {t : En
   -- ---- chains and fields
 
   leads : (e : EndId) (least : ℕ) → IsSought w s.ends e → IsLeading w u c e least
-  leads e least sought =
-      record { entry = λ j h le led. by j h led (ended e) refl; lands = λ from q m taken has its. absurd (none-some (from, q) (sym told.taken ∙ taken)) }
+  leads e least sought = record { entry = λ j h le led. by j h led (ended e) refl; lands = λ from q m taken has its. lands from q m taken has its (ended e) refl }
     where
+      -- what led on from the kernel has no more hops than the end
+      few_hops : (on : ended e ≡ true) (h : ℕ) (y : Entry) → entry_at w k e ≡ y → LeadsOn w e k (HasChain u e) h y → h ≤ (value e on).hops
+      few_hops on h entry.Nothing was led = absurd led
+      few_hops on h (entry.Here v) was led = subst (λ (m : MovingPicture). h ≤ m.hops) ((told.each e on).alone (At k) v.value (ap value_of was)).1 led
+      few_hops on h (entry.Left to n) was led =
+          let more : h < n = led.0 in
+          let old : n ≤ (value e on).hops = (subst (IsTraceRight w s.ends e k) was ((traced e).entries k)).old (x.are e on).stand (value e on) (x.are e on).had in
+          omega (arith, more, old)
+      few_hops on h (entry.Destroyed m) was led = absurd (not-marked k e m was (told.each e on).lives)
+
       mark : (j h : ℕ) → LeadsOn w e j (HasChain u e) h (entry_at w j e) → (on : ended e ≡ true) → ((nat_eq j k ≡ true) × (j ≡ k)) ⊎ ((nat_eq j k ≡ false) × (j ≢ k)) → (entry_at u j e ≡ entry_at w j e) ⊎ HasChain u e j h
       mark j h led on (inr far) = inl (b.others j e far.0)
       mark j h led on (inl near) =
-          let v = view e on in
-          let few_hops : h ≤ v.0.value.hops = subst (LeadsOn w e k (HasChain u e) h) v.1 (subst (λ z. LeadsOn w e z (HasChain u e) h (entry_at w z e)) near.1 led) in
-          inr (subst (λ z. HasChain u e z h) (sym near.1) (chain-mark u e k h v.0.value (mark-there e on (alive e v.0 v.1 sought)) few_hops))
+          inr (subst (λ z. HasChain u e z h) (sym near.1)
+          (chain-mark u e k h (value e on) (mark-there e on (alive e on sought)) (few_hops on h (entry_at w k e) refl (subst (λ z. LeadsOn w e z (HasChain u e) h (entry_at w z e)) near.1 led))))
 
       by : (j h : ℕ) → LeadsOn w e j (HasChain u e) h (entry_at w j e) → (a : Bool) → ended e ≡ a → (entry_at u j e ≡ entry_at w j e) ⊎ HasChain u e j h
       by j h led false off = inl (other-entry b x j e off)
       by j h led true on = mark j h led on (eqb_tells j k)
 
-  same-fields : (e : EndId) (at : Stand) (m : MovingPicture) → HasFields u e at m → HasSome w e (λ o. o ≡ m)
-  same-fields e at m has = let was = fields-was b x e at m has in record { at = was.0; fields = m; are = was.1; is = refl }
+      -- an end that the packet brings is destroyed
+      brought : (q : PictureWhat) → IsReturnOf ended q → (m : MovingPicture) → Contains (values_of q) m → m.end ≡ e → ended e ≡ false → ⊥
+      brought (packet.Back f n ms) is m has its off = not_among e (ends_in ms) (is e off) (subst (Contains (ends_in ms)) its (ends_in-there ms m has))
+      brought _ is m has its off = absurd is
+
+      lands : (from : ℕ) (q : Picture) (m : MovingPicture) → c.taken ≡ Some (from, q) → Contains (values_of q.what) m → m.end ≡ e → (a : Bool) → ended e ≡ a → HasChain u e k m.hops
+      lands from q m taken has its false off = absurd (brought q.what (subst (λ y. IfSome y (λ o. IsReturnOf ended o.1.what)) taken x.taken) m has its off)
+      lands from q m taken has its true on =
+          chain-mark u e k m.hops (value e on) (mark-there e on (alive e on sought))
+          (let same : m.hops ≡ (value e on).hops = ap (λ (z : MovingPicture). z.hops) ((told.each e on).alone Flying m (record { from = from; to = k; packet = q; there = taken-before b from q taken; is = has }, its)).1 in omega (arith, same))
 
   hint-was : (e : EndId) (at : Stand) (m : MovingPicture) → HasFields u e at m → HasSome w e (λ o. o.hint.1 ≤ m.hint.1)
   hint-was e at m has = let was = fields-was b x e at m has in record { at = was.0; fields = m; are = was.1; is = omega arith }
@@ -227,17 +244,21 @@ module _ {ended : EndId → Bool} {w u : Links} {c : Change} {s : State} {t : En
       by false off =
           record { sought = sought-still e r.sought; at = r.at; fields = r.fields; are = (fields-same b e (x.others e off) (unbrought b x e off) r.at r.fields).1 r.are; in_trail = r.in_trail }
       by true on =
-          let v = view e on in
-          let same : r.fields ≡ v.0.value = (fields-here (length s.made) w s.ends few right.named right.marked once e k v.0 r.at r.fields v.1 r.are).1 in
-          record { sought = sought-still e r.sought; at = At k; fields = r.fields; are = ap value_of (mark-there e on (alive e v.0 v.1 r.sought)) ∙ ap Some (sym same); in_trail = r.in_trail }
+          record {
+            sought = sought-still e r.sought;
+            at = At k;
+            fields = r.fields;
+            are = ap value_of (mark-there e on (alive e on r.sought)) ∙ ap Some (sym ((told.each e on).alone r.at r.fields r.are).1);
+            in_trail = r.in_trail;
+          }
 
   ending-left : (e : EndId) (j h : ℕ) → IsLeftRight w s.ends e j h → IsLeftRight u t e j h
-  ending-left e j h is = left-on b s.ends t e j h (hops-were e) (λ r. inl (trailed-still e j r)) (λ n taken at covers. untaken (IsForgetOf e n) taken) is
+  ending-left e j h is = left-on b s.ends t e j h (hops-were e) (λ r. inl (trailed-still e j r)) (λ n taken at covers. untaken (IsForgetOf e n) (λ f a ms none. none) taken) is
 
   ending-announced : (e : EndId) (j : ℕ) (v : HereView) → entry_at w j e ≡ entry.Here v → IsAnnounced w s.ends e j v → IsAnnounced u t e j v
   ending-announced e j v here is unnoticed some living =
       announced-on b s.ends t e j v v refl refl (λ more. more) (λ free. sym (noticed-same b x e) ∙ free) (living-was b x (opposite e)) (leads (opposite e) v.value.hint.1 sought)
-      (λ taken at. absurd (untaken _ taken)) (λ taken chain. absurd (untaken _ taken)) is unnoticed some living
+      (λ taken at. absurd (untaken (IsKnownOf e v.value.hops) (λ f a ms none. none) taken)) (λ taken chain. absurd (untaken (IsMovedTo (opposite e) j v.value.hops) (λ f a ms none. none) taken)) is unnoticed some living
     where
       sought : IsSought w s.ends (opposite e)
       sought = opposite-sought e (open-so (s.ends e) (lives j e v here) (sym (noticed-same b x e) ∙ unnoticed))
@@ -254,7 +275,7 @@ module _ {ended : EndId → Bool} {w u : Links} {c : Change} {s : State} {t : En
       (λ open_is to what has back. absurd (back-untold k (opposite e) what (sent-each (λ to what. IsGoneAt k what) c.packets to what told.sent has) back))
       (λ open_is to what has parcel. absurd (parcel-untold k e what (sent-each (λ to what. IsGoneAt k what) c.packets to what told.sent has) parcel))
       (λ at o n j h open_is has asks. let was = fields-was b x (opposite e) at o has in inl (record { at = was.0; fields = o; are = was.1; is = unserved-was (opposite e) o n j h asks }))
-      (λ sought. inl (sought-still (opposite e) sought, leads (opposite e) m.hint.1 sought)) (λ taken at. absurd (untaken _ taken)) (λ taken chain sought. absurd (untaken _ taken)) is
+      (λ sought. inl (sought-still (opposite e) sought, leads (opposite e) m.hint.1 sought)) (λ taken at. absurd (untaken (IsGoneSeen e) (λ f a ms none. none) taken)) (λ taken chain sought. absurd (untaken (IsGoneFrom (opposite e) d) (λ f a ms none. none) taken)) is
     where
       -- no gone of this end is sent
       untold : (at : ℕ) → IsSent c (IsGoneFrom (opposite e) at) → ⊥
@@ -262,18 +283,18 @@ module _ {ended : EndId → Bool} {w u : Links} {c : Change} {s : State} {t : En
 
   -- ---- the mark of an end that is destroyed
 
-  module _ (e : EndId) (on : ended e ≡ true) (free : (view e on).0.value.dead ≡ false) where
-    abbrev v : HereView
-    v = (view e on).0
+  module _ (e : EndId) (on : ended e ≡ true) (free : (value e on).dead ≡ false) where
+    abbrev v : MovingPicture
+    v = value e on
 
     abbrev y : EndId
     y = opposite e
 
-    here : entry_at w k e ≡ entry.Here v
-    here = (view e on).1
+    lived : is_living (s.ends e).place ≡ true
+    lived = (told.each e on).lives
 
     was-open : is_open (s.ends e) ≡ true
-    was-open = open-so (s.ends e) (lives k e v here) (sym (view-dead e v here) ∙ free)
+    was-open = open-so (s.ends e) lived (sym (knows e on) ∙ free)
 
     right-there : (from to : ℕ) (q : Picture) → Contains (w.packets from to) q → IsPacketRight w s.ends from to q.what
     right-there from to q has = All-contains (λ o. IsPacketRight w s.ends from to o.what) (w.packets from to) q (right.packets from to) has
@@ -299,40 +320,40 @@ module _ {ended : EndId → Bool} {w u : Links} {c : Change} {s : State} {t : En
         (λ to what has parcel. absurd (parcel-untold k e what (sent-each (λ to what. IsGoneAt k what) c.packets to what told.sent has) parcel))
       where
         site : (to : ℕ) → IsHereAnd (entry_at w to e) (λ v. Unit {0}) → to ≡ k
-        site to met = let z = there-here (entry_at w to e) (λ v. Unit {0}) met in here-kernel (length s.made) w s.ends few right.named right.marked once e to k z.0 v z.1 here
+        site to met = let z = there-here (entry_at w to e) (λ v. Unit {0}) met in near-kernel e on to z.0.value (ap value_of z.1)
 
-    new-asked : (at : Stand) (m : MovingPicture) (n j h : ℕ) → is_open (t y) ≡ true → HasFields u y at m → IsUnserved u y m n j h → (j ≡ k) × (h ≡ v.value.hops)
+    new-asked : (at : Stand) (m : MovingPicture) (n j h : ℕ) → is_open (t y) ≡ true → HasFields u y at m → IsUnserved u y m n j h → (j ≡ k) × (h ≡ v.hops)
     new-asked at m n j h open_is has asks =
         let was = fields-was b x y at m has in
         let site : IsHereAnd (entry_at w j (opposite y)) (λ z. (z.value.hops ≡ h) × (z.value.asked ≡ n))
-        = (right.wanted y).site was.0 m n j h (open-was b x y open_is) was.1 (unserved-was y m n j h asks) (subst (λ z. is_living (s.ends z).place ≡ true) (sym (opposite-twice e)) (lives k e v here)) in
+        = (right.wanted y).site was.0 m n j h (open-was b x y open_is) was.1 (unserved-was y m n j h asks) (subst (λ z. is_living (s.ends z).place ≡ true) (sym (opposite-twice e)) lived) in
         let z = there-here (entry_at w j e) (λ z. (z.value.hops ≡ h) × (z.value.asked ≡ n)) (subst (λ o. IsHereAnd (entry_at w j o) (λ z. (z.value.hops ≡ h) × (z.value.asked ≡ n))) (opposite-twice e) site) in (
-          here-kernel (length s.made) w s.ends few right.named right.marked once e j k z.0 v z.1 here,
-          sym z.2.0 ∙ ap (λ (m : MovingPicture). m.hops) (fields-here (length s.made) w s.ends few right.named right.marked once e k v (At j) z.0.value here (ap value_of z.1)).1,
+          near-kernel e on j z.0.value (ap value_of z.1),
+          sym z.2.0 ∙ ap (λ (m : MovingPicture). m.hops) ((told.each e on).alone (At j) z.0.value (ap value_of z.1)).1,
         )
 
     -- a gone goes to the hint, from where a chain leads on
-    new-mourned : IsMourned u t e k v.value.hint.1
+    new-mourned : IsMourned u t e k v.hint.1
     new-mourned =
         inr (
           sought-still y sought,
-          track-sent b y v.value.hint.1 v.value.hint.0 (packet.Gone y k) (IsGoneFrom y k) (told.each e v on here free) (refl, refl)
-              (chain-on b y v.value.hint.1 (leads y v.value.hint.1 sought) v.value.hint.0 v.value.hint.1 (omega arith)
-              ((traced y).reached (At k) v.value v.value.hint.0 v.value.hint.1 sought (subst (IsSought w s.ends) (sym (opposite-twice e)) (inl was-open)) has
-              (inl (record { stand = At k; fields = v.value; are = has; hint = refl })) (omega arith))),
+          track-sent b y v.hint.1 v.hint.0 (packet.Gone y k) (IsGoneFrom y k) ((told.each e on).gone free) (refl, refl)
+              (chain-on b y v.hint.1 (leads y v.hint.1 sought) v.hint.0 v.hint.1 (omega arith)
+              ((traced y).reached (x.are e on).stand v v.hint.0 v.hint.1 sought (subst (IsSought w s.ends) (sym (opposite-twice e)) (inl was-open)) has
+              (inl (record { stand = (x.are e on).stand; fields = v; are = has; hint = refl })) (omega arith))),
         )
       where
         sought : IsSought w s.ends y
         sought = opposite-sought e was-open
 
-        has : HasFields w (opposite y) (At k) v.value
-        has = subst (λ z. HasFields w z (At k) v.value) (sym (opposite-twice e)) (ap value_of here)
+        has : HasFields w (opposite y) (x.are e on).stand v
+        has = subst (λ z. HasFields w z (x.are e on).stand v) (sym (opposite-twice e)) (x.are e on).had
 
-    ended-mark : IsMarkRight u t e k v.value
+    ended-mark : IsMarkRight u t e k v
     ended-mark =
         record {
           dead = free;
-          noticed = noticed-same b x e ∙ sym (view-dead e v here) ∙ free;
+          noticed = noticed-same b x e ∙ sym (knows e on) ∙ free;
           gone = new-gone;
           backs = λ open_is. new-backs;
           parcels = λ open_is. new-parcels;
@@ -343,18 +364,18 @@ module _ {ended : EndId → Bool} {w u : Links} {c : Change} {s : State} {t : En
   -- ---- entries
 
   ended-right : (e : EndId) (on : ended e ≡ true) → IsTraceRight u t e k (entry_at u k e)
-  ended-right e on = by (view e on).0.value.dead refl
+  ended-right e on = by (value e on).dead refl
     where
-      by : (a : Bool) → (view e on).0.value.dead ≡ a → IsTraceRight u t e k (entry_at u k e)
+      by : (a : Bool) → (value e on).dead ≡ a → IsTraceRight u t e k (entry_at u k e)
       by false free = subst (IsTraceRight u t e k) (sym (mark-there e on free)) (ended-mark e on free)
-      by true dead = subst (IsTraceRight u t e k) (sym (left e on ∙ ap (λ a. if a then entry.Nothing else entry.Destroyed (view e on).0.value) dead)) tt
+      by true dead = subst (IsTraceRight u t e k) (sym (left e on ∙ ap (λ a. if a then entry.Nothing else entry.Destroyed (value e on)) dead)) tt
 
   -- where it is not, it had no more than a forwarding entry
   elsewhere-right : (e : EndId) (on : ended e ≡ true) (j : ℕ) → j ≢ k → (z : Entry) → entry_at w j e ≡ z → IsTraceRight w s.ends e j z → IsTraceRight u t e j z
   elsewhere-right e on j far entry.Nothing at is = tt
   elsewhere-right e on j far (entry.Left to h) at is = ending-left e j h is
-  elsewhere-right e on j far (entry.Here o) at is = absurd (far (here-kernel (length s.made) w s.ends few right.named right.marked once e j k o (view e on).0 at (view e on).1))
-  elsewhere-right e on j far (entry.Destroyed m) at is = absurd (not-marked j e m at (lives k e (view e on).0 (view e on).1))
+  elsewhere-right e on j far (entry.Here o) at is = absurd (far (near-kernel e on j o.value (ap value_of at)))
+  elsewhere-right e on j far (entry.Destroyed m) at is = absurd (not-marked j e m at (told.each e on).lives)
 
   other-right : (e : EndId) → ended e ≡ false → (j : ℕ) (z : Entry) → entry_at w j e ≡ z → IsTraceRight w s.ends e j z → IsTraceRight u t e j z
   other-right e off j entry.Nothing at is = tt

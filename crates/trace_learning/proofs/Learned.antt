@@ -88,7 +88,7 @@ steady-value _ (entry.Left to hops) l like has = absurd (let none : None ≡ Som
 steady-value _ _ l like has = absurd like
 
 -- what is learned is news, or the hint is no older
-learned-hint : (at hops : ℕ) (m : MovingPicture) → ((is_news m hops ≡ true) × ((learned at hops m).hint ≡ (at, hops)) × (m.hint.1 < hops)) ⊎ ((is_news m hops ≡ false) × ((learned at hops m).hint ≡ m.hint) × (hops ≤ m.hint.1))
+pub learned-hint : (at hops : ℕ) (m : MovingPicture) → ((is_news m hops ≡ true) × ((learned at hops m).hint ≡ (at, hops)) × (m.hint.1 < hops)) ⊎ ((is_news m hops ≡ false) × ((learned at hops m).hint ≡ m.hint) × (hops ≤ m.hint.1))
 learned-hint at hops m = by (is_news m hops) refl
   where
     by : (a : Bool) → is_news m hops ≡ a → ((is_news m hops ≡ true) × ((learned at hops m).hint ≡ (at, hops)) × (m.hint.1 < hops)) ⊎ ((is_news m hops ≡ false) × ((learned at hops m).hint ≡ m.hint) × (hops ≤ m.hint.1))

@@ -76,7 +76,7 @@ news-live k at hops v j = by (is_news v.value hops)
     by false = tt
 
 -- that of an end with a trail is among them
-news-moved : (k at hops : ℕ) (v : HereView) (j : Inward) → is_news v.value hops ≡ true → (v.value.trail ≡ 0 → ⊥) → Contains {X = ℕ × PictureWhat} (view_news k at hops v j) (at, packet.Moved (opposite v.value.end) k v.value.hops)
+pub news-moved : (k at hops : ℕ) (v : HereView) (j : Inward) → is_news v.value hops ≡ true → (v.value.trail ≡ 0 → ⊥) → Contains {X = ℕ × PictureWhat} (view_news k at hops v j) (at, packet.Moved (opposite v.value.end) k v.value.hops)
 news-moved k at hops v j news some =
     subst (λ a. Contains {X = ℕ × PictureWhat} (if a then live_packets k (if a then record v.value { hint = (at, hops) } else v.value) j else []) (at, packet.Moved (opposite v.value.end) k v.value.hops)) (sym news)
     (Contains-append_right (receive_packets k (record v.value { hint = (at, hops) }) j) (if nat_eq v.value.trail 0 then [] else moved_packets k (record v.value { hint = (at, hops) })) (at, packet.Moved (opposite v.value.end) k v.value.hops)
@@ -84,7 +84,7 @@ news-moved k at hops v j news some =
     (first {X = ℕ × PictureWhat} (at, packet.Moved (opposite v.value.end) k v.value.hops) [])))
 
 -- all but the hint stays
-learned-like : (at hops : ℕ) (m : MovingPicture) → learned at hops m ≡ record m { hint = (learned at hops m).hint }
+pub learned-like : (at hops : ℕ) (m : MovingPicture) → learned at hops m ≡ record m { hint = (learned at hops m).hint }
 learned-like at hops m = by (is_news m hops)
   where
     by : (a : Bool) → (if a then record m { hint = (at, hops) } else m) ≡ record m { hint = (if a then record m { hint = (at, hops) } else m).hint }

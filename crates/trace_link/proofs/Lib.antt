@@ -1,3 +1,4 @@
 pub mod Make
 pub mod Apart
+pub mod Own
 pub mod Notice

@@ -1,0 +1,5 @@
+pub mod Tame
+pub mod Takings
+pub mod Calls
+pub mod Held
+pub mod Run

@@ -1,0 +1,3 @@
+pub mod Still
+pub mod Onward
+pub mod Moving

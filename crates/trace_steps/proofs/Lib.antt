@@ -1,0 +1,4 @@
+pub mod Same
+pub mod Words
+pub mod Destroys
+pub mod Steps
