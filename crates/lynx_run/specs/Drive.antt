@@ -15,6 +15,7 @@ use Rattle.lynx_command.specs.declared.ending.End.TheVariants.{Done}
 use Rattle.lynx_command.specs.declared.failure.Failure.TheVariants.{Script as BrokenScript, NoMemory}
 use Rattle.script_run.specs.Performing.{IsPerformance}
 use Rattle.theorem.specs.Record.{IsLawfulRecord}
+use Rattle.trace_law.specs.Law.{IsBareRecord}
 
 -- the bytes are a script: no line of them is refused
 pub record IsScriptOf (bytes : List ℕ) (script : Script) : Type 0 where
@@ -31,6 +32,8 @@ pub record IsDriven (bytes : List ℕ) (lines : List (List ℕ)) : Type 0 where
   pub performed : IsPerformance script.setting script.lines merged notes last
   -- what its entries show is one lawful run of the link service, and after each of them the kernels stand for the state of the service
   pub lawful : IsLawfulRecord script.setting merged
+  -- where no packet is under way at its end, no kernel keeps a trace of a link that moved on
+  pub bare : IsBareRecord script.setting merged
   pub told : IsTranscript (concat lines) script.setting merged notes last
   pub line_by_line : lines ≡ transcript_lines script.setting merged notes last
 

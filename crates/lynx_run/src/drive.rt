@@ -61,7 +61,7 @@ impl FileCommand for DriveCommand {
 
 // The transcript of the script that these bytes are. They are let go once it was performed: the C library keeps later blocks of that size among
 // the small ones, where each that grows is copied.
-#[tactic(auto, using(crate::proofs::Lawful::performance_is_lawful))]
+#[tactic(auto, using(crate::proofs::Lawful::performance_is_lawful, trace_law::proofs::Run::record_is_bare))]
 fn perform_script(alloc: Global, bytes: Vec<u8>, script: Script) -> Result<Transcript, NoMemory>
     requires within { length bytes.items ≤ most_bytes }
     requires given { IsScriptOf bytes.items script }
@@ -81,8 +81,9 @@ fn perform_script(alloc: Global, bytes: Vec<u8>, script: Script) -> Result<Trans
 }
 
 /// Performs the script of a file, and puts its transcript on out, one put a line. What the entries of the transcript show is one
-/// lawful run of the link service, and after each of them the kernels stand for its state (`lawful` of `IsDriven`). Where a put fails, the
-/// line of the failure is put on err. After a put that failed nothing more is put.
+/// lawful run of the link service, and after each of them the kernels stand for its state (`lawful` of `IsDriven`). Where no packet is under
+/// way at the end, no kernel keeps a trace of a link that moved on (`bare`). Where a put fails, the line of the failure is put on err. After a
+/// put that failed nothing more is put.
 pub fn drive_file<F: Files, O: Sink, E: Sink>(
     alloc: Global,
     name: &str,

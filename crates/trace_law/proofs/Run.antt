@@ -6,7 +6,8 @@ use Rattle.charlotte_packets.specs.declared.picture.Picture.{Picture}
 use Rattle.end_table.specs.declared.entry.Entry.{Entry}
 use Rattle.end_table.specs.declared.entry.Entry.TheVariants as entry
 use Rattle.end_table.specs.declared.entry.HereView.{HereView}
-use Rattle.kernel_world.specs.Run.{AllTaken, AreAllowed, IsAllowed, IsRun}
+use Rattle.kernel_entries.specs.declared.entry.Placed.{Placed}
+use Rattle.kernel_world.specs.Run.{AllTaken, AreAllowed, IsAllowed, IsRecord, IsRun}
 use Rattle.kernel_world.specs.World.{Calls, Event, Takes, World, after, happens, start}
 use Rattle.service_step.specs.Run.{start_state, state_after}
 use Rattle.service_step.specs.State.{State}
@@ -20,7 +21,7 @@ use Rattle.theorem_meaning.specs.Packets.{links_of}
 use Rattle.trace_law.proofs.Calls.{calls-traced}
 use Rattle.trace_law.proofs.Held.{held-here}
 use Rattle.trace_law.proofs.Takings.{takes-traced}
-use Rattle.trace_law.specs.Law.{AreHeldHere, IsBareAfter, IsHeldHere}
+use Rattle.trace_law.specs.Law.{AreHeldHere, IsBareAfter, IsBareRecord, IsHeldHere}
 use Rattle.trace_meaning.proofs.Quiet.{bare-when-quiet}
 use Rattle.trace_meaning.specs.Traces.{AreTraced, IsNoTrace}
 use Rattle.trace_start.proofs.Start.{starts-traced}
@@ -74,3 +75,6 @@ pub bare-after : (g : Setting) (es : List Event) → IsValid g → IsRun g es �
 bare-after g es valid run =
     held-after g (after (start g) es)
     (goes-on g 0 (start g) (start_state g) es (starts-well g valid) refl refl (from-none (length es) (2 ^ 31) run.few) run.allowed (starts-traced g valid))
+
+pub record_is_bare : (g : Setting) (merged : List Placed) → IsValid g → IsBareRecord g merged
+record_is_bare g merged valid es recorded = bare-after g es valid recorded.run

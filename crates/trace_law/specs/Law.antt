@@ -9,9 +9,10 @@ use Rattle.end_table.specs.declared.entry.Entry.TheVariants as entry
 use Rattle.end_table.specs.declared.entry.HereView.{HereView}
 use Rattle.end_table.specs.declared.entry.Holder.{Holder}
 use Rattle.end_table.specs.declared.entry.Holder.TheVariants as holder
+use Rattle.kernel_entries.specs.declared.entry.Placed.{Placed}
 use Rattle.kernel_step.specs.Actions.{enclosed_of}
 use Rattle.kernel_step.specs.Start.{home}
-use Rattle.kernel_world.specs.Run.{AllTaken}
+use Rattle.kernel_world.specs.Run.{AllTaken, IsRecord}
 use Rattle.kernel_world.specs.World.{Event, World, after, start}
 
 -- a process of kernel k owns the end
@@ -38,3 +39,7 @@ AreHeldHere s w = (k : ℕ) (e : EndId) → IsHeldHere s k (w.kernel k).table e 
 -- so it is after these events, if all packets were taken
 abbrev pub IsBareAfter : Setting → List Event → Type 0
 IsBareAfter s es = AllTaken (after (start s) es) → AreHeldHere s (after (start s) es)
+
+-- so it is after each run whose entries in the order of a merge these are
+abbrev pub IsBareRecord : Setting → List Placed → Type 0
+IsBareRecord s merged = (es : List Event) → IsRecord s es merged → IsBareAfter s es

@@ -13,7 +13,8 @@ pub fn every_run_is_within()
     ensures { (s : Setting) (es : List Event) → IsValid s → IsRun s es → AreWithin s es }
 {}
 
-/// The service lines of a transcript that is replayed are one lawful run of the link service, from the setting of its header.
+/// The service lines of a transcript that is replayed are one lawful run of the link service, from the setting of its header. Once all packets were
+/// taken no kernel keeps a trace of a link that moved on.
 pub fn every_replay_is_lawful()
     ensures { (kinds : List LineKind) (last : Last) → IsReplay kinds last → IsLawfulReplay kinds last }
 {}

@@ -1,0 +1,9 @@
+pub mod Machine
+pub mod Modules
+pub mod Packets
+pub mod Ends
+pub mod Hearing
+pub mod Processes
+pub mod Acting
+pub mod Told
+pub mod May
