@@ -130,8 +130,8 @@ module _ (i : ℕ) (w : World) (s : State) (is : Invariant i w s) (k from stamp 
     received-traced =
         landed-traced i w s is k from (picture (packet.Parcel to n r at hops bytes ms)) others there (opposite to) carries tt v (taken_view at hops v) here v.holder (receives_effect k n at hops bytes ms v) p given rs happened staying
         (λ m has free.
-            later (at, packet.Taken (opposite v.value.end) n k v.value.hops) (moves ++ news) (m.hint.0, packet.Moved (opposite m.end) k m.hops)
-            (Contains-append_left moves news (m.hint.0, packet.Moved (opposite m.end) k m.hops) (arrival-there k ms m has free)))
+        later (at, packet.Taken (opposite v.value.end) n k v.value.hops) (moves ++ news) (m.hint.0, packet.Moved (opposite m.end) k m.hops)
+        (Contains-append_left moves news (m.hint.0, packet.Moved (opposite m.end) k m.hops) (arrival-there k ms m has free)))
         said now as_open traced
 
   -- ---- a back, at its send
