@@ -49,6 +49,10 @@ const LINKS: usize = 4;
 struct Maker<'a> {
     chance: &'a mut Chance,
     params: usize,
+    /// The operations that the modules of a run ask for.
+    ops: &'a [usize],
+    /// How many of 40 statements accept.
+    accepts: usize,
     /// The links of accepts around a statement, which it names more often than others.
     around: Vec<String>,
 }
@@ -89,8 +93,12 @@ impl Maker<'_> {
         format!("try {statement}; {handlers}end;\n")
     }
 
+    fn op(&mut self) -> usize {
+        self.chance.pick(self.ops)
+    }
+
     fn entry_name(&mut self) -> String {
-        format!("{}_entry", OPS[self.chance.below(OPS.len())].0)
+        format!("{}_entry", OPS[self.op()].0)
     }
 
     /// Mostly there is a reply.
@@ -114,16 +122,19 @@ impl Maker<'_> {
     }
 
     fn connect(&mut self) -> String {
-        let op = self.chance.below(OPS.len());
+        let op = self.op();
         let (on, (made, values)) = (self.link(), self.fresh(op, OPS[op].1));
         format!("{made}connect {} on {on} ({values}) : ({})", OPS[op].0, self.names(op, OPS[op].2))
     }
 
     fn accept(&mut self, depth: usize) -> String {
-        let op = self.chance.below(OPS.len());
+        let op = self.op();
         let (on, names) = (self.link(), self.names(op, OPS[op].1));
         self.around.push(on.clone());
-        let body = self.some(depth + 1, 2) + &self.reply(op) + &self.some(depth + 1, 2);
+        // the link itself is sent on before the reply: that is refused
+        let moved =
+            if self.chance.below(3) == 0 { Self::tried(&format!("connect give on {} ({on}) : ()", self.link())) } else { String::new() };
+        let body = self.some(depth + 1, 2) + &moved + &self.reply(op) + &self.some(depth + 1, 2);
         self.around.pop();
         format!("accept {} on {on} ({names}) do {body}end", OPS[op].0)
     }
@@ -144,9 +155,11 @@ impl Maker<'_> {
     }
 
     fn statement(&mut self, depth: usize) -> String {
+        if depth < 3 && self.chance.below(40) < self.accepts {
+            return self.accept(depth);
+        }
         match self.chance.below(40) {
-            0..=17 => self.connect(),
-            18..=20 if depth < 3 => self.accept(depth),
+            0..=20 => self.connect(),
             21..=23 => self.spread(),
             24..=30 => self.flicker(depth),
             31 => format!("bind {} to {}", self.link(), self.entry_name()),
@@ -432,8 +445,12 @@ fn run(seed: u64) -> Result<(usize, Counts), (usize, &'static str)> {
     let mut chance = Chance(seed.wrapping_mul(0x9E37_79B9_7F4A_7C15) | 1);
     let setting = setting(&mut chance);
     let ends = wired(&setting);
-    let modules: Vec<Loaded> =
-        ends.iter().map(|ends| loaded(Maker { chance: &mut chance, params: ends.len(), around: Vec::new() }.module())).collect();
+    let ops: Vec<usize> = (0..1 + chance.below(3)).map(|_| chance.below(OPS.len())).collect();
+    let mut module = |params: usize| {
+        let accepts = [2, 8, 20][chance.below(3)];
+        loaded(Maker { chance: &mut chance, params, ops: &ops, accepts, around: Vec::new() }.module())
+    };
+    let modules: Vec<Loaded> = ends.iter().map(|ends| module(ends.len())).collect();
     let start = |loaded: &'static Loaded, ends: &[End]| {
         let mut program = Lynx::start(setting.version, &loaded.source, &loaded.module, &loaded.code, ends);
         program.deeds = Some(Vec::new());
