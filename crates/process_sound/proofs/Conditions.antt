@@ -37,7 +37,8 @@ use Rattle.process_sound.specs.Acting.{IsActing}
 use Rattle.process_sound.specs.Ends.{IsKept}
 use Rattle.process_sound.specs.Hearing.{IsHeardFor, IsTakenFor, owed_by}
 use Rattle.process_sound.specs.Machine.{Fits, MayRaise, asks}
-use Rattle.process_sound.specs.May.{AnyState, AreSendable, IsSendable, MayAnswer, MayCall, MayComeOf, MayDestroy, MayDie, MayGoOn, MayProceed, MayReport, MayReportIn, MayReportOn, MayReturn, MayStep, MayStop, MayTake, kept_at, kept_by, kept_in, raised_so}
+use Rattle.process_sound.specs.May.{AnyState, AreSendable, IsSendable, MayAnswer, MayCall, MayComeOf, MayDestroy, MayDie, MayGoOn, MayProceed, MayReport, MayReportIn, MayReportOn, MayReturn, MayStep, MayStop, MayTake, raised_so}
+use Rattle.process_ends.specs.Ends.{kept_at, kept_by, kept_in}
 use Rattle.process_sound.specs.Packets.{MaySend}
 use Rattle.process_sound.specs.Processes.{IsFor, IsGoing, IsRunning}
 use Rattle.process_sound.specs.Told.{IsTold}

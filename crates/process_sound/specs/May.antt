@@ -31,29 +31,18 @@ use Rattle.end_protocol.specs.declared.messages.Message.{Message}
 use Rattle.end_protocol.specs.Falling.{fallen, raised}
 use Rattle.end_protocol.specs.Going.{receive_over}
 use Rattle.end_protocol.specs.Lists.{head}
-use Rattle.process_run.specs.States.{Gone, Held, Holding, Keeps, Asked, Place, State}
+use Rattle.process_run.specs.States.{Held, Keeps, Asked, State}
 use Rattle.process_run.specs.States as process
 use Rattle.process_run.specs.Actions.{acts}
 use Rattle.process_run.specs.Deaths.{destroys}
-use Rattle.process_run.specs.Ends.{held_at, link_of, number_of, place_at, puts, room, unpacked}
+use Rattle.process_run.specs.Ends.{held_at, link_of, number_of, puts, room, unpacked}
+use Rattle.process_ends.specs.Ends.{kept_at}
 use Rattle.process_run.specs.Reports.{answered, listens, on_end}
 use Rattle.process_run.specs.Runs.{first_due, machine_run, most_actions, most_instructions, settles}
 use Rattle.process_sound.specs.Machine.{Fits, MayRaise}
 use Rattle.process_sound.specs.Packets.{AreOfBytes}
 
 -- ---- ends by number
-
-abbrev pub kept_by : Holding → Option Kept
-kept_by (Keeps k) = Some k
-kept_by (Gone own) = None
-
-abbrev pub kept_in : Option Place → Option Kept
-kept_in None = None
-kept_in (Some p) = kept_by p.holding
-
--- what is kept for the end of a number, where it is held
-abbrev pub kept_at : ℕ → List Place → Option Kept
-kept_at n ps = kept_in (place_at n ps)
 
 abbrev pub raised_so : Option Kept → List ℕ
 raised_so None = []
