@@ -2,7 +2,8 @@
 
 ghost use Rattle.std.specs.Prelude.{◌≡◌, ◌<◌, ◌≤◌, ◌↔◌, ◌++◌, [], ◌∷◌, length, map, IsErr, IfOk, OnOk, OnErr, ℤ};
 ghost use Rattle.std.specs.List.{flat_map};
-ghost use Rattle.lynx_packets.specs.Spelling.{int_text, number_text, bool_text, value_text, values_text, spelling, IsPacket};
+ghost use Rattle.lynx_packets.specs.Spelling.{int_text, number_text, bool_text, value_text, values_text, spelling};
+ghost use Rattle.lynx_packets.specs.declared.packet.RtPacket.TheVariants.{Request, Reply};
 
 use crate::fault::TooLong;
 use crate::packet::RtPacket;
@@ -111,12 +112,14 @@ fn put_request(
     signature: &[u8],
     values: &[RtValue],
 ) -> Result<(), TooLong>
-    requires { length signature.now ≤ 255 }
     ensures ok { OnOk result (out.new.items ≡ out.old.items ++ 1 ∷ number_text number ++ length signature.now ∷ signature.now ++ values_text values.now) }
     ensures long { OnErr result (256 < length (out.old.items ++ 1 ∷ number_text number ++ length signature.now ∷ signature.now ++ values_text values.now)) }
 {
+    let Ok(length) = u8::try_from(signature.len()) else {
+        return Err(TooLong);
+    };
     put_number(out, 1, number)?;
-    put_tagged(out, &[signature.len() as u8], signature)?;
+    put_tagged(out, &[length], signature)?;
     put_values(out, values)
 }
 
@@ -129,14 +132,14 @@ fn put_reply(out: &mut Room, number: u32, status: u8, values: &[RtValue]) -> Res
     put_values(out, values)
 }
 
-/// The bytes of a packet that is short.
+/// The bytes as a message.
 #[inline(always)]
-fn short(bytes: &[u8]) -> Bytes
+fn message(bytes: &[u8]) -> Bytes
     requires { length bytes.now ≤ 256 }
     ensures { result ≡ bytes.now }
 {
     match Bytes::from_slice(bytes) {
-        Some(short) => short,
+        Some(message) => message,
         None => unreachable!(),
     }
 }
@@ -147,7 +150,7 @@ fn numbered(kind: u8, number: u32) -> Bytes
     ensures { result ≡ kind ∷ number_text number }
 {
     let [a, b, c, d] = number.to_be_bytes();
-    short(&[kind, a, b, c, d])
+    message(&[kind, a, b, c, d])
 }
 
 #[tactic(auto, unfolding(crate::specs::Spelling::number_text))]
@@ -155,43 +158,32 @@ fn enc(kind: u8, number: u32, index: u8) -> Bytes
     ensures { result ≡ 7 ∷ kind ∷ number_text number ++ index ∷ [] }
 {
     let [a, b, c, d] = number.to_be_bytes();
-    short(&[7, kind, a, b, c, d, index])
+    message(&[7, kind, a, b, c, d, index])
 }
 
-/// The bytes that were put.
-#[inline(always)]
-fn whole(room: &Room) -> Bytes
-    ensures { result ≡ room.now.items }
-{
-    match Bytes::from_slice(room.as_slice()) {
-        Some(bytes) => bytes,
-        None => unreachable!(),
-    }
-}
-
+#[tactic(auto, unfolding(crate::specs::Spelling::spelling))]
 fn request(number: u32, signature: &[u8], values: &[RtValue]) -> Result<Bytes, TooLong>
-    requires { length signature.now ≤ 255 }
-    ensures ok { IfOk result (λ bytes. bytes ≡ 1 ∷ number_text number ++ length signature.now ∷ signature.now ++ values_text values.now) }
-    ensures long { IsErr result ↔ (256 < length (1 ∷ number_text number ++ length signature.now ∷ signature.now ++ values_text values.now)) }
+    ensures ok { IfOk result (λ bytes. bytes ≡ spelling (Request number signature.now values.now)) }
+    ensures long { IsErr result ↔ (256 < length (spelling (Request number signature.now values.now))) }
 {
     let mut room = ArrayVec::new();
     put_request(&mut room, number, signature, values)?;
-    Ok(whole(&room))
+    Ok(message(room.as_slice()))
 }
 
+#[tactic(auto, unfolding(crate::specs::Spelling::spelling))]
 fn reply(number: u32, status: u8, values: &[RtValue]) -> Result<Bytes, TooLong>
-    ensures ok { IfOk result (λ bytes. bytes ≡ 2 ∷ number_text number ++ status ∷ values_text values.now) }
-    ensures long { IsErr result ↔ (256 < length (2 ∷ number_text number ++ status ∷ values_text values.now)) }
+    ensures ok { IfOk result (λ bytes. bytes ≡ spelling (Reply number status values.now)) }
+    ensures long { IsErr result ↔ (256 < length (spelling (Reply number status values.now))) }
 {
     let mut room = ArrayVec::new();
     put_reply(&mut room, number, status, values)?;
-    Ok(whole(&room))
+    Ok(message(room.as_slice()))
 }
 
 /// The bytes of a packet, which are the same in each version that has it. TooLong exactly where they are more than 256.
 #[tactic(auto, unfolding(crate::specs::Spelling::spelling))]
 pub fn encode(packet: &RtPacket) -> Result<Bytes, TooLong>
-    requires { IsPacket packet.now }
     ensures long { IsErr result ↔ (256 < length (spelling packet.now)) }
     ensures same { IfOk result (λ bytes. bytes ≡ spelling packet.now) }
 {

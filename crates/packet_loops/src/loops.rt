@@ -1,8 +1,5 @@
 //! One packet that is read or written again and again.
 
-ghost use Rattle.std.specs.Prelude.{◌≤◌, length, IfSome};
-ghost use Rattle.lynx_packets.specs.Spelling.{IsPacket};
-
 use lynx_packets::{RtPacket, decode, encode};
 use std::alloc::Global;
 
@@ -10,9 +7,7 @@ use std::alloc::Global;
 pub(crate) const MOST_BYTES: usize = 256;
 
 /// The packet that the bytes spell in version 1.
-fn packet_of(alloc: Global, bytes: &[u8]) -> Option<RtPacket>
-    ensures { IfSome result IsPacket }
-{
+fn packet_of(alloc: Global, bytes: &[u8]) -> Option<RtPacket> {
     if bytes.len() > MOST_BYTES {
         return None;
     }
