@@ -3,3 +3,4 @@ pub mod Shapes
 pub mod Posts
 pub mod Found
 pub mod Again
+pub mod Names

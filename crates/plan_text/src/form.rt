@@ -1,4 +1,4 @@
-ghost use Rattle.std.specs.Prelude.{◌≡◌, ◌≢◌, ◌&&◌, nat_le, IfOk, option_copied};
+ghost use Rattle.std.specs.Prelude.{◌≡◌, ◌≢◌, ◌&&◌, true, nat_le, IfOk, option_copied};
 ghost use Rattle.std.specs.List.{list_all};
 ghost use Rattle.charlotte_text.specs.Reading.{Gives, rest_parts, words};
 ghost use Rattle.charlotte_text.specs.Spelling.{blank};
@@ -11,6 +11,7 @@ use charlotte_text::{
 };
 use lynx_plan::{Form, Lead, led_form, placed_process, read_lead};
 use std::alloc::Global;
+use std::str::from_utf8;
 
 /// What a process line says beside the process and its kernel.
 #[derive(Debug, Drop)]
@@ -101,16 +102,27 @@ fn read_file(alloc: Global, rest: Option<&[u8]>) -> Result<Result<Role, Fault>, 
 
 /// `FILE`.
 #[tactic(auto, unfolding(crate::specs::Forms::file_role))]
-fn file_name(rest: Option<&[u8]>) -> Result<&[u8], Fault>
+fn file_name(rest: Option<&[u8]>) -> Result<&str, Fault>
     ensures { Gives (λ x. Role.Runs x.now) result (file_role (rest_parts blank (option_copied rest.entry))) }
 {
     let (name, rest) = next_word(rest)?;
     end_of_line(rest)?;
     if is_name(name) {
-        Ok(name)
+        Ok(name_text(name))
     } else {
         Err(Fault::Form)
     }
+}
+
+/// A name as text.
+fn name_text(name: &[u8]) -> &str
+    requires { is_name name.now ≡ true }
+    ensures { result.now ≡ name.now }
+{
+    let Ok(text) = from_utf8(name) else {
+        unreachable!()
+    };
+    text
 }
 
 fn is_name(word: &[u8]) -> bool

@@ -31,30 +31,30 @@ pub struct Hosting {
 /// The name of a file, as a plan has it: one or more bytes from 33 to 126.
 #[derive(Debug, Drop)]
 pub struct Name {
-    bytes: Vec<u8>,
+    text: String,
 }
 
 impl Model for Name {
-    ghost use Rattle.std.specs.Prelude.{List, ℕ};
+    ghost use Rattle.std.specs.Prelude.{List, ℕ, string_bytes};
 
     ghost Value = { List ℕ };
 
-    ghost view = { λ n. n.bytes.items };
+    ghost view = { λ n. string_bytes n.text };
 }
 
 impl Name {
-    pub(crate) fn of(alloc: Global, bytes: &[u8]) -> Result<Name, NoMemory>
-        ensures { IfOk result (λ name. name ≡ bytes.now) }
+    pub(crate) fn of(alloc: Global, text: &str) -> Result<Name, NoMemory>
+        ensures { IfOk result (λ name. name ≡ text.now) }
     {
         Ok(Name {
-            bytes: Vec::from_slice(alloc, bytes)?,
+            text: String::from_str(alloc, text)?,
         })
     }
 
-    /// The bytes of the name.
-    pub fn as_bytes(&self) -> &[u8]
+    /// The name.
+    pub fn as_str(&self) -> &str
         ensures { result.now ≡ self.now }
     {
-        self.bytes.as_slice()
+        self.text.as_str()
     }
 }

@@ -44,7 +44,7 @@ fn has_setting(setting: &Setting) -> bool {
 fn text_of(alloc: Global, names: &[Name]) -> Result<Vec<u8>, NoMemory> {
     let mut text = Vec::new(alloc);
     for name in names {
-        text.extend_from_slice(name.as_bytes())?;
+        text.extend_from_slice(name.as_str().as_bytes())?;
         text.push(b' ')?;
     }
     Ok(text)
