@@ -1,6 +1,7 @@
 //! The code of a source.
 
-ghost use Rattle.std.specs.Prelude.{◌≡◌, ◌<◌, length};
+ghost use Rattle.std.specs.Prelude.{◌≡◌, ◌<◌, length, IfOk};
+ghost use Rattle.lynx_code.specs.Checked.{IsCheckedCode};
 ghost use Rattle.compiler_source.specs.Compiled.{GivesCode, source_fault};
 
 use lynx_code::Code;
@@ -23,7 +24,8 @@ fn source_fault(fault: CompileFault) -> SourceFault
 /// from it.
 pub fn compile_source(alloc: Global, source: &[u8]) -> Result<Code, SourceFault>
     requires { length source.now < 4294967295 }
-    ensures { GivesCode source.now result }
+    ensures code { GivesCode source.now result }
+    ensures checked { IfOk result IsCheckedCode }
 {
     let checked = check_source(alloc, source)?;
     match compile(alloc, &checked) {

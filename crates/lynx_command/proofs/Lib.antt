@@ -1,3 +1,4 @@
 pub mod Courses
+pub mod Faults
 mod FirstLines
 pub mod Puts

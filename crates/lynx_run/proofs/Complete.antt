@@ -29,7 +29,7 @@ use Rattle.lynx_run.specs.Audit.{Audits}
 use Rattle.lynx_run.specs.Commands.{Answers, Finds, Performs, file_of}
 use Rattle.lynx_run.specs.Complete.{AreObeyed, HasFileOf, HasNoFault, IsComplete, IsObeyed, Obeys, StaysBelow}
 use Rattle.lynx_run.specs.Drive.{Drives}
-use Rattle.lynx_run.specs.Failing.{FailsAs}
+use Rattle.lynx_command.specs.Failing.{FailsAs}
 use Rattle.lynx_source.proofs.Readings.{one_check}
 use Rattle.lynx_source.specs.Sources.{IsCheckedAs}
 use Rattle.lynx_source.specs.declared.fault.SourceFault.{SourceFault}

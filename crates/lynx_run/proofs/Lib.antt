@@ -1,5 +1,4 @@
 mod Complete
 mod Driven
-mod Faults
 mod Once
 pub mod Lawful

@@ -5,7 +5,7 @@ use Rattle.lynx_command.specs.Text.{line}
 use Rattle.lynx_command.specs.declared.ending.End.TheVariants.{Done}
 use Rattle.lynx_source.specs.Sources.{IsCheckedAs}
 use Rattle.lynx_syntax.specs.Trees.{ModuleTree}
-use Rattle.lynx_run.specs.Failing.{FailsAs}
+use Rattle.lynx_command.specs.Failing.{FailsAs}
 
 -- the line for a module of this name
 abbrev pub checked_text : List ℕ → List ℕ

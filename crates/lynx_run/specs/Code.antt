@@ -6,7 +6,7 @@ use Rattle.lynx_command.specs.Text.{lines_of}
 use Rattle.lynx_command.specs.declared.ending.End.TheVariants.{Done}
 use Rattle.compiler_source.specs.Compiled.{IsCompiledAs}
 use Rattle.lynx_syntax.specs.Trees.{ModuleTree}
-use Rattle.lynx_run.specs.Failing.{FailsAs}
+use Rattle.lynx_command.specs.Failing.{FailsAs}
 
 -- the lines of the listing of the module that the bytes spell, where it breaks no typing rule and its code is not too long, or their first
 -- fault

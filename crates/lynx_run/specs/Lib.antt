@@ -4,4 +4,3 @@ pub mod Code
 pub mod Commands
 pub mod Complete
 pub mod Drive
-pub mod Failing

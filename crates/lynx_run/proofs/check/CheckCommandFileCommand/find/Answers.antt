@@ -4,7 +4,7 @@ use Rattle.std.proofs.lemmas.Result.{err_from_is_err_and}
 use Rattle.lynx_source.specs.Sources.{IsCheckedAs}
 use Rattle.lynx_syntax.specs.Trees.{module_tree}
 use Rattle.lynx_tree.specs.declared.module.Module.{Module}
-use Rattle.lynx_run.proofs.Faults.{fault_told}
+use Rattle.lynx_command.proofs.Faults.{fault_told}
 use Rattle.lynx_run.specs.Check.{checked_text}
 use Rattle.lynx_run.proofs.check.CheckCommandFileCommand.find.Goals as goal
 

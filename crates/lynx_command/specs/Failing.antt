@@ -4,7 +4,7 @@ use Rattle.lynx_command.specs.declared.failure.Failure.{Failure}
 use Rattle.lynx_command.specs.declared.failure.Failure.TheVariants.{Lex, Syntax, Deep, Rule, CodeTooLong, NoMemory}
 use Rattle.lynx_source.specs.declared.fault.SourceFault.{SourceFault}
 use Rattle.lynx_source.specs.declared.fault.SourceFault.TheVariants as fault
-use Rattle.lynx_syntax.specs.Trees.{ModuleTree}
+use Rattle.lynx_tree.specs.Trees.{ModuleTree}
 
 -- a fault is told as the failure of its name, where the relation has it as the outcome of a source; want of memory comes at any source
 abbrev pub FailsAs : (Result ModuleTree SourceFault → Type 0) → Failure → Type 0
