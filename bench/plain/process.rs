@@ -44,13 +44,13 @@ pub struct Deed {
 // ---------------------------------------------------------------- what is kept for an end
 
 /// A packet that is queued, with the ends that travel with it.
-struct Queued {
-    packet: Packet,
-    ends: Vec<End>,
+pub struct Queued {
+    pub packet: Packet,
+    pub ends: Vec<End>,
 }
 
 #[derive(Clone, Copy, Default, PartialEq)]
-enum Sending {
+pub enum Sending {
     #[default]
     Idle,
     /// The ends of the packet were the process's own.
@@ -59,7 +59,7 @@ enum Sending {
 }
 
 #[derive(Clone, Copy, Default, PartialEq)]
-enum Receiving {
+pub enum Receiving {
     #[default]
     Idle,
     Started,
@@ -68,58 +68,58 @@ enum Receiving {
 }
 
 /// A thread that connects, with the ends that are in no packet.
-struct Connect {
-    thread: usize,
-    number: u32,
-    op: usize,
-    values: Vec<packet::Value>,
-    ends: Vec<End>,
+pub struct Connect {
+    pub thread: usize,
+    pub number: u32,
+    pub op: usize,
+    pub values: Vec<packet::Value>,
+    pub ends: Vec<End>,
 }
 
-struct Response {
-    number: u32,
-    status: u8,
-    values: Vec<packet::Value>,
-    ends: Vec<End>,
+pub struct Response {
+    pub number: u32,
+    pub status: u8,
+    pub values: Vec<packet::Value>,
+    pub ends: Vec<End>,
 }
 
 #[derive(Clone, Copy)]
-enum Taker {
+pub enum Taker {
     Thread(usize),
     Entry(usize),
 }
 
 /// A request that is wanted.
-struct Wanted {
-    by: Taker,
-    number: u32,
-    signature: Vec<u8>,
-    values: Vec<packet::Value>,
-    ends: Vec<End>,
+pub struct Wanted {
+    pub by: Taker,
+    pub number: u32,
+    pub signature: Vec<u8>,
+    pub values: Vec<packet::Value>,
+    pub ends: Vec<End>,
 }
 
 #[derive(Default)]
-struct Kept {
-    queue: VecDeque<Queued>,
-    sending: Sending,
-    receiving: Receiving,
+pub struct Kept {
+    pub queue: VecDeque<Queued>,
+    pub sending: Sending,
+    pub receiving: Receiving,
     /// The number of the last request.
-    last: u32,
-    outstanding: Option<Connect>,
+    pub last: u32,
+    pub outstanding: Option<Connect>,
     /// The outstanding request was forbidden.
-    barred: bool,
-    behind: VecDeque<Connect>,
+    pub barred: bool,
+    pub behind: VecDeque<Connect>,
     /// The number of the request that is owed a reply.
-    owed: Option<u32>,
+    pub owed: Option<u32>,
     /// Number and signature of a request that was forbidden.
-    forbade: Option<(u32, Vec<u8>)>,
+    pub forbade: Option<(u32, Vec<u8>)>,
     /// A request and a reply in part.
-    request: Option<Wanted>,
-    reply: Option<Response>,
+    pub request: Option<Wanted>,
+    pub reply: Option<Response>,
     /// Threads, and the operations that they accept.
-    accepts: Vec<(usize, usize)>,
-    bindings: Vec<usize>,
-    dead: bool,
+    pub accepts: Vec<(usize, usize)>,
+    pub bindings: Vec<usize>,
+    pub dead: bool,
 }
 
 impl Kept {
@@ -419,6 +419,28 @@ impl<'a> Process<'a> {
 
     fn number(&self, end: End) -> u32 {
         self.numbers.get(&end).copied().unwrap_or(0)
+    }
+
+    /// What is kept for an end, if the process holds it.
+    pub fn kept_for(&self, end: End) -> Option<&Kept> {
+        self.kept(self.number(end))
+    }
+
+    /// Whether the process is about to destroy the end.
+    pub fn is_doomed(&self, end: End) -> bool {
+        self.doomed.contains(&end)
+    }
+
+    /// The end on which its last call is a Send.
+    pub fn sends_on(&self) -> Option<End> {
+        match self.asked {
+            Asked::Send(number) => Some(self.end(number)),
+            _ => None,
+        }
+    }
+
+    pub fn signature_of(&self, connect: &Connect) -> &[u8] {
+        &self.ops[connect.op].0
     }
 
     fn hold_again(&mut self, ends: &[End]) {

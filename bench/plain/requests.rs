@@ -3,6 +3,7 @@
 //! requests that were accepted, each with the links that it carries where they should be.
 //!
 //!     requests SEED EVENTS              so many events, in runs of at most 1500
+//!     requests SEED EVENTS phases       after each step it is also tested that the requests of each way are in a phase (docs/REQUESTS.md)
 
 use std::collections::BTreeMap;
 use std::process::ExitCode;
@@ -19,6 +20,8 @@ include!("nodes.rs");
 use compiler::{compile, Code};
 use module::{checked, Module};
 use process::{Deed, Process as Lynx, What as DeedOf};
+
+include!("phases.rs");
 
 const EVENTS_OF_A_RUN: usize = 1500;
 
@@ -374,6 +377,11 @@ struct Run<'a> {
     claims: Claims,
     /// How many packets of each kind were sent.
     sent: [usize; 8],
+    version: u8,
+    /// Whether the phases are tested.
+    has_phases: bool,
+    /// How often the phases of a way were tested, and what is left of one where its link was cut.
+    tested: [usize; 2],
 }
 
 impl Run<'_> {
@@ -398,6 +406,113 @@ impl Run<'_> {
         Ok(())
     }
 
+    /// The messages sent on this end that its opposite's owner did not hear yet; of a link that was cut only those that may still be heard.
+    fn on_the_way(&self, from: End, is_cut: bool) -> Vec<Sent> {
+        let to = from.opposite();
+        let mut sent = Vec::new();
+        let mut add =
+            |bytes: &[u8], ends: Vec<End>| sent.push(Sent { packet: packet::decode(self.version, bytes).expect("it is a packet"), ends });
+        for process in &self.world.processes {
+            let answer = match &process.answer {
+                Some(Answer::Reported(report)) => Some(report),
+                _ => None,
+            };
+            for report in answer.into_iter().chain(&process.reports) {
+                if report.on == to && report.is_inward && report.is_done {
+                    add(&report.bytes, report.enclosed.to_vec());
+                }
+            }
+        }
+        for packet in self.world.packets() {
+            if let What::Parcel(parcel) = &packet.what {
+                if parcel.to == to {
+                    add(&parcel.bytes, parcel.moving.iter().map(|value| value.end).collect());
+                }
+            }
+        }
+        if let (false, Some(Outward::Waiting(message))) = (is_cut, self.world.here(from).map(|here| &here.outward)) {
+            add(&message.bytes, message.enclosed.to_vec());
+        }
+        sent
+    }
+
+    fn side(&self, e: End) -> Side<'_> {
+        Side {
+            kept: self
+                .programs
+                .iter()
+                .zip(&self.is_over)
+                .filter(|(_, is_over)| !**is_over)
+                .find_map(|(program, _)| program.kept_for(e).map(|kept| (kept, program))),
+        }
+    }
+
+    /// What was issued at this end and accepted at its opposite, and so on.
+    fn done(&self, e: End) -> Done {
+        let lists = |e: End| self.claims.lists.get(&e);
+        Done {
+            issued: lists(e).map_or(Vec::new(), |lists| lists.issued.iter().map(|(_, deed)| told(deed)).collect()),
+            accepted: lists(e.opposite()).map_or(Vec::new(), |lists| lists.accepted.iter().map(told).collect()),
+            replied: lists(e.opposite()).map_or(Vec::new(), |lists| lists.replied.iter().map(told).collect()),
+            returned: lists(e).map_or(Vec::new(), |lists| lists.returned.iter().map(told).collect()),
+        }
+    }
+
+    fn test_link(&mut self, e: End) -> Result<(), &'static str> {
+        let o = e.opposite();
+        let (asker, server) = (self.side(e), self.side(o));
+        let is_dead = |side: &Side| side.kept.is_some_and(|(kept, _)| kept.dead);
+        let is_doomed = |e: End| self.programs.iter().any(|program| program.is_doomed(e));
+        let is_cut =
+            !self.world.is_living(e) || !self.world.is_living(o) || is_dead(&asker) || is_dead(&server) || is_doomed(e) || is_doomed(o);
+        // a packet that is sent stays in the queue until the process hears the answer
+        let is_sent = |e: End| {
+            self.programs
+                .iter()
+                .zip(&self.world.processes)
+                .any(|(program, process)| program.sends_on() == Some(e) && matches!(process.answer, Some(Answer::Ok)))
+        };
+        let queued = |e: End, side: &Side| -> Vec<Sent> {
+            let copy = |q: &process::Queued| Sent {
+                packet: packet::decode(self.version, packet::encode(&q.packet).expect("it fits").as_slice()).expect("it is one"),
+                ends: q.ends.clone(),
+            };
+            side.kept
+                .filter(|_| !is_cut)
+                .map_or(Vec::new(), |(kept, _)| kept.queue.iter().skip(usize::from(is_sent(e))).map(copy).collect())
+        };
+        let to: Vec<Sent> = self.on_the_way(e, is_cut).into_iter().chain(queued(e, &asker)).collect();
+        let from: Vec<Sent> = self.on_the_way(o, is_cut).into_iter().chain(queued(o, &server)).collect();
+        let most = if self.version == 1 { 1 } else { 8 };
+        let talk = Talk {
+            most,
+            asker,
+            server,
+            forth: to.iter().filter(|sent| is_asking(&sent.packet)).collect(),
+            back: from.iter().filter(|sent| !is_asking(&sent.packet)).collect(),
+        };
+        let done = self.done(e);
+        if is_cut {
+            done.test_cut(&talk)?
+        } else {
+            done.test_living(&talk)?
+        }
+        self.tested[usize::from(is_cut)] += 1;
+        Ok(())
+    }
+
+    fn test_links(&mut self) -> Result<(), &'static str> {
+        let mut ends: Vec<End> = self.world.kernels.iter().flat_map(|kernel| kernel.table.keys().copied()).collect();
+        ends.extend(self.claims.lists.keys());
+        ends.extend(ends.clone().iter().map(|e| e.opposite()));
+        ends.sort();
+        ends.dedup();
+        for e in ends {
+            self.test_link(e)?;
+        }
+        Ok(())
+    }
+
     /// One packet or one step, whichever chance picks; whether there was one.
     fn event(&mut self, chance: &mut Chance, eager: usize) -> Result<bool, &'static str> {
         let filled: Vec<usize> = (0..MOST_KERNELS * MOST_KERNELS).filter(|&place| self.world.net.filled >> place & 1 == 1).collect();
@@ -412,6 +527,9 @@ impl Run<'_> {
             self.step(chance.pick(&ready) as u8)?;
         }
         self.claims.test_open(&self.world)?;
+        if self.has_phases {
+            self.test_links()?;
+        }
         Ok(true)
     }
 }
@@ -438,10 +556,10 @@ fn wired(setting: &Setting) -> Vec<Vec<End>> {
 }
 
 /// Deeds and packets of each kind.
-type Counts = ([usize; 4], [usize; 8]);
+type Counts = ([usize; 4], [usize; 8], [usize; 2]);
 
 /// A run of this seed: how many events it has, and its counts.
-fn run(seed: u64) -> Result<(usize, Counts), (usize, &'static str)> {
+fn run(seed: u64, has_phases: bool) -> Result<(usize, Counts), (usize, &'static str)> {
     let mut chance = Chance(seed.wrapping_mul(0x9E37_79B9_7F4A_7C15) | 1);
     let setting = setting(&mut chance);
     let ends = wired(&setting);
@@ -458,28 +576,39 @@ fn run(seed: u64) -> Result<(usize, Counts), (usize, &'static str)> {
     };
     let programs: Vec<Lynx> = modules.into_iter().zip(&ends).map(|(loaded, ends)| start(Box::leak(Box::new(loaded)), ends)).collect();
     let is_over = vec![false; programs.len()];
-    let mut run = Run { world: World::start(&setting), programs, is_over, claims: Claims::default(), sent: [0; 8] };
+    let mut run = Run {
+        world: World::start(&setting),
+        programs,
+        is_over,
+        claims: Claims::default(),
+        sent: [0; 8],
+        version: setting.version,
+        has_phases,
+        tested: [0; 2],
+    };
     let eager = 1 + chance.below(9);
     for events in 0..EVENTS_OF_A_RUN {
         match run.event(&mut chance, eager) {
             Ok(true) => {}
-            Ok(false) => return Ok((events, (run.claims.counts, run.sent))),
+            Ok(false) => return Ok((events, (run.claims.counts, run.sent, run.tested))),
             Err(claim) => return Err((events, claim)),
         }
     }
-    Ok((EVENTS_OF_A_RUN, (run.claims.counts, run.sent)))
+    Ok((EVENTS_OF_A_RUN, (run.claims.counts, run.sent, run.tested)))
 }
 
 fn main() -> ExitCode {
+    let has_phases = std::env::args().any(|word| word == "phases");
     let words: Vec<u64> = std::env::args().skip(1).filter_map(|word| word.parse().ok()).collect();
-    let &[first, most] = &words[..] else { fail(2, "requests: SEED EVENTS") };
-    let (mut events, mut deeds, mut packets, mut seed) = (0, [0; 4], [0; 8], first);
+    let &[first, most] = &words[..] else { fail(2, "requests: SEED EVENTS [phases]") };
+    let (mut events, mut deeds, mut packets, mut tested, mut seed) = (0, [0; 4], [0; 8], [0; 2], first);
     while events < most as usize {
-        match run(seed) {
+        match run(seed, has_phases) {
             Ok((more, counts)) => {
                 events += more.max(1);
                 deeds.iter_mut().zip(counts.0).for_each(|(count, more)| *count += more);
                 packets.iter_mut().zip(counts.1).for_each(|(count, more)| *count += more);
+                tested.iter_mut().zip(counts.2).for_each(|(count, more)| *count += more);
             }
             Err((at, claim)) => {
                 println!("run {seed}, event {at}: {claim}");
@@ -491,6 +620,9 @@ fn main() -> ExitCode {
     let [issued, accepted, replied, returned] = deeds;
     let [_, request, reply, retry, forbid, allow, goahead, enc] = packets;
     println!("packets: {request} request, {reply} reply, {retry} retry, {forbid} forbid, {allow} allow, {goahead} goahead, {enc} enc");
+    if has_phases {
+        println!("{} times a way of a link was in a phase, and {} times one that was cut", tested[0], tested[1]);
+    }
     println!("{events} events in {} runs: {issued} requests issued, {accepted} accepted, {replied} replied to, {returned} returned; no claim was false", seed - first);
     ExitCode::SUCCESS
 }
