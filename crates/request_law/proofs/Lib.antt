@@ -18,3 +18,4 @@ pub mod CutLinks
 pub mod Run
 pub mod Ends
 pub mod Readable
+pub mod Wrong
