@@ -1,0 +1,4 @@
+pub mod Names
+pub mod Given
+pub mod Forms
+pub mod Lines
