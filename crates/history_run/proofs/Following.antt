@@ -25,7 +25,7 @@ pub few_parts : (bytes : List ℕ) → length (parts 10 bytes) ≤ length bytes 
 few_parts bytes = omega (arith, length-slice_split (λ b. eqb b 10) bytes, count_by-le-length (λ b. eqb b 10) bytes)
 
 -- a run and one step more
-run_snoc : (s t u : State) (as : List Numbered) (a : Numbered) → IsRun s as t → IsAct t a.act u → IsRun s (as ++ a ∷ []) u
+run_snoc : (s t u : State) (acts : List Numbered) (a : Numbered) → IsRun s acts t → IsAct t a.act u → IsRun s (acts ++ a ∷ []) u
 run_snoc s t u [] a r made = (u, subst (λ x. IsAct x a.act u) r made, refl)
 run_snoc s t u (b ∷ bs) a r made = (r.0, r.1, run_snoc r.0 t u bs a r.2 made)
 
@@ -34,13 +34,13 @@ more_made : (n : ℕ) (seen : Seen) (begun : Bool) (v w : ServiceView) (g : Give
     → (more : Seen) × (joined seen (before n g (Some act) rest) ≡ joined more rest) × HasMade more true w
 more_made n None false v w g act rest made one =
     let a : Numbered = record { line = n; act = act } in
-    (Some (setting_given g, a ∷ []), refl, state_of w, one, refl)
+    (Some (setting_given g, a ∷ []), refl, (state_of w, one, refl))
 more_made n None true v w g act rest made one = absurd made
 more_made n (Some seen) false v w g act rest made one = absurd made
 more_made n (Some seen) true v w g act rest made one =
     let a : Numbered = record { line = n; act = act } in
     (Some (seen.0, seen.1 ++ a ∷ []),
-     ap (λ as. record { setting = seen.0; acts = as; wrong = rest.wrong }) (sym (append_assoc seen.1 (a ∷ []) rest.acts)),
+     ap (λ acts. record { setting = seen.0; acts = acts; wrong = rest.wrong }) (sym (append_assoc seen.1 (a ∷ []) rest.acts)),
      run_snoc (start_state seen.0) (state_of v) (state_of w) seen.1 a made one)
 
 -- the steps so far and perhaps one more
@@ -83,7 +83,7 @@ ended : (seen : Seen) (begun : Bool) (v : ServiceView) (x : Setting) (w : Option
     → IsRunOf (joined seen (record { setting = x; acts = []; wrong = w }))
 ended None begun v x w made = (start_state x, refl)
 ended (Some seen) false v x w made = absurd made
-ended (Some seen) true v x w made = (state_of v, subst (λ as. IsRun (start_state seen.0) as (state_of v)) (sym (append-nil seen.1)) made)
+ended (Some seen) true v x w made = (state_of v, subst (λ acts. IsRun (start_state seen.0) acts (state_of v)) (sym (append-nil seen.1)) made)
 
 wrong_kept : (seen : Seen) (rest : Told) → (joined seen rest).wrong ≡ rest.wrong
 wrong_kept None rest = refl
@@ -109,18 +109,18 @@ unfolding lines_told
 formless_told n g ps t ts old split formless =
     ap (lines_told n old.draft) split ∙ ap (then_told (n + 1) old.draft (λ x. lines_told (n + 1) x ts)) formless.read
 
-pub fails : {X : Type 0} (bytes : List ℕ) (n : ℕ) (ps : List (List ℕ)) (t : List ℕ) (ts : List (List ℕ)) (old : History) (why : HistoryFault) → ps ≡ t ∷ ts
-    → IsFaultOf t old why → IsAt bytes n ps old → IsAnswer {X} (told_by bytes) (Err (fault_at (n + 1) why))
-fails bytes n ps t ts old fault.NoMemory split is at = tt
-fails bytes n ps t ts old fault.NotAllowed split is at =
+pub fails : (X : Type 0) (bytes : List ℕ) (n : ℕ) (ps : List (List ℕ)) (t : List ℕ) (ts : List (List ℕ)) (old : History) (why : HistoryFault) → ps ≡ t ∷ ts
+    → IsFaultOf t old why → IsAt bytes n ps old → IsAnswer {X = X} (told_by bytes) (Err (fault_at (n + 1) why))
+fails X bytes n ps t ts old fault.NoMemory split is at = tt
+fails X bytes n ps t ts old fault.NotAllowed split is at =
     let e = at.told ∙ ap (joined at.seen) (next_told n old.draft is.given (Some is.act) ps t ts split is.read) in
     subst (λ x. IsRefusedAt x (n + 1)) (sym e)
     (refused_at (n + 1) at.seen old.begun old.service is.given is.act (lines_told (n + 1) is.given ts) at.made is.fault)
-fails bytes n ps t ts old fault.Form split (inl formless) at =
+fails X bytes n ps t ts old fault.Form split (inl formless) at =
     let e = at.told ∙ ap (joined at.seen) (formless_told n old.draft ps t ts old split formless) in
     (ap (λ x. x.wrong) e ∙ wrong_kept at.seen (record { setting = setting_given old.draft; acts = []; wrong = Some (n + 1) }),
      subst IsRunOf (sym e) (ended at.seen old.begun old.service (setting_given old.draft) (Some (n + 1)) at.made))
-fails bytes n ps t ts old fault.Form split (inr stopped) at =
+fails X bytes n ps t ts old fault.Form split (inr stopped) at =
     let e = at.told ∙ ap (joined at.seen) (next_told n old.draft stopped.given (Some stopped.act) ps t ts split stopped.read) in
     absurd
     (invalid_at (n + 1) at.seen old.begun old.service stopped.given stopped.act (lines_told (n + 1) stopped.given ts) at.made stopped.fault.0 stopped.fault.1
@@ -143,8 +143,8 @@ ends_well x bytes n ps h none here at =
     let all = all_told bytes n ps h none at in
     (all.0 ∙ here, all.1)
 
-pub ends_early : {X : Type 0} (bytes : List ℕ) (n : ℕ) (ps : List (List ℕ)) (h : History) → ps ≡ [] → missing_at n h.draft.stage ≡ Some n → IsAt bytes n ps h
-    → IsAnswer {X} (told_by bytes) (Err (text.Form n))
-ends_early bytes n ps h none missing at =
+pub ends_early : (X : Type 0) (bytes : List ℕ) (n : ℕ) (ps : List (List ℕ)) (h : History) → ps ≡ [] → missing_at n h.draft.stage ≡ Some n → IsAt bytes n ps h
+    → IsAnswer {X = X} (told_by bytes) (Err (text.Form n))
+ends_early X bytes n ps h none missing at =
     let all = all_told bytes n ps h none at in
     (all.0 ∙ missing, all.1)

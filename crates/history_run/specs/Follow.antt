@@ -49,6 +49,22 @@ pub record IsNew (h : History) : Type 0 where
   pub draft : h.draft ≡ nothing
   pub begun : h.begun ≡ false
 
+-- why a service was not started
+abbrev pub IsStartFault : Setting → HistoryFault → Type 0
+IsStartFault setting fault.Form = IsValid setting → ⊥
+IsStartFault setting fault.NotAllowed = ⊥
+IsStartFault setting fault.NoMemory = Unit {0}
+
+-- no step was told, and the service was not started
+abbrev pub IsBeginFault : History → HistoryFault → Type 0
+IsBeginFault h why = (h.begun ≡ false) × IsStartFault (setting_given h.draft) why
+
+-- the service is there
+pub record Begins (old new : History) : Type 0 where
+  pub act : new.act ≡ old.act
+  pub begun : new.begun ≡ true
+  pub state : state_of new.service ≡ state_now old.begun old.service old.draft
+
 -- a step was made, where these were read last
 pub record Makes (old : History) (act : Act) (new : History) : Type 0 where
   pub begun : new.begun ≡ true

@@ -2,11 +2,9 @@
 ghost use Rattle.std.specs.Prelude.{◌≡◌, ◌↔◌, IfOk, IfErr, OnOk, IsTrue, MatchResult};
 ghost use Rattle.history_text.specs.Given.{setting_given};
 ghost use Rattle.link_service.specs.Service.{state_of};
-ghost use Rattle.charlotte_calls.specs.Setting.{IsValid};
-ghost use Rattle.history_run.specs.declared.fault.HistoryFault.TheVariants as faults;
 ghost use Rattle.history_run.specs.Runs.{IsAct, IsOwners};
 ghost use Rattle.service_step.specs.Run.{start_state};
-ghost use Rattle.history_run.specs.Follow.{IsNew, IsActFault, IsStepFault, IsFaultOf, Follows, Makes};
+ghost use Rattle.history_run.specs.Follow.{IsNew, IsActFault, IsBeginFault, IsStartFault, IsStepFault, IsFaultOf, Begins, Follows, Makes};
 
 use crate::fault::HistoryFault;
 use charlotte_calls::{EndId, NoMemory, Pid, ServiceStep};
@@ -77,11 +75,22 @@ impl History {
         ensures ok { OnOk result (Makes self.old self.old.act self.new) }
         ensures fault { IfErr result (IsStepFault self.old self.old.act) }
     {
-        if !self.begun {
-            self.service = start(alloc, &self.draft)?;
-            self.begun = true;
-        }
+        self.begin(alloc)?;
         make(&mut self.service, &self.act)?;
+        Ok(())
+    }
+
+    /// Starts the service, where no step was told before.
+    fn begin(&mut self, alloc: Global) -> Result<(), HistoryFault>
+        ensures draft { self.new.draft ≡ self.old.draft }
+        ensures ok { OnOk result (Begins self.old self.new) }
+        ensures fault { IfErr result (IsBeginFault self.old) }
+    {
+        if self.begun {
+            return Ok(());
+        }
+        self.service = start(alloc, &self.draft)?;
+        self.begun = true;
         Ok(())
     }
 }
@@ -89,7 +98,7 @@ impl History {
 /// The start of the setting that the header tells.
 fn start(alloc: Global, draft: &Draft) -> Result<Service, HistoryFault>
     ensures ok { IfOk result (λ s. state_of s ≡ start_state (setting_given draft.now)) }
-    ensures fault { IfErr result (λ e. e ≡ faults.Form → IsValid (setting_given draft.now) → ⊥) }
+    ensures fault { IfErr result (IsStartFault (setting_given draft.now)) }
 {
     let setting = draft.setting(alloc)?;
     if !setting.valid() {
