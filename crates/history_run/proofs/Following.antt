@@ -1,5 +1,5 @@
 -- Following lines one after the other, as the loop does.
-use Rattle.std.proofs.Common.{◌≡◌, ℕ, ◌+◌, ◌≤◌, Bool, true, false, List, [], ◌∷◌, ◌++◌, Option, Some, None, Result, Ok, Err, eqb, length, refl, sym, ap, subst, ◌∙◌, ◌⊎◌, inl, inr, arith}
+use Rattle.std.proofs.Common.{◌≡◌, ℕ, ◌+◌, ◌≤◌, Bool, true, false, List, [], ◌∷◌, ◌++◌, Option, Some, None, Ok, Err, eqb, length, refl, sym, ap, subst, ◌∙◌, inl, inr, arith}
 use Rattle.std.proofs.lemmas.List.{append_assoc, append-nil}
 use Rattle.std.proofs.lemmas.List.Sums.{count_by-le-length}
 use Rattle.std.proofs.lemmas.List.Splits.{length-slice_split}
@@ -7,14 +7,13 @@ use Rattle.charlotte_calls.specs.Setting.{IsValid}
 use Rattle.charlotte_calls.specs.declared.setting.Setting.{Setting}
 use Rattle.charlotte_text.specs.Reading.{parts}
 use Rattle.history_run.specs.Runs.{IsAct, IsActAllowed, IsAnswer, IsRefusedAt, IsRun, IsRunOf}
-use Rattle.history_run.specs.Follow.{IsAt, IsNew, Follows, Does, Makes, IsFaultOf, IsStopped, IsFormless, Seen, HasMade, joined, state_now, fault_at}
+use Rattle.history_run.specs.Follow.{IsAt, IsNew, Follows, Does, IsFaultOf, IsFormless, Seen, HasMade, joined, state_now, fault_at}
 use Rattle.history_run.specs.declared.fault.HistoryFault.{HistoryFault}
 use Rattle.history_run.specs.declared.fault.HistoryFault.TheVariants as fault
-use Rattle.history_run.specs.declared.fault.TextFault.{TextFault}
 use Rattle.history_run.specs.declared.fault.TextFault.TheVariants as text
 use Rattle.history_run.specs.declared.history.History.{History}
 use Rattle.history_text.proofs.Valid.{setting_is_valid}
-use Rattle.history_text.specs.Given.{Given, nothing, setting_given}
+use Rattle.history_text.specs.Given.{Given, setting_given}
 use Rattle.history_text.specs.Lines.{Numbered, Told, line_read, lines_told, told_by, before, then_told, missing_at}
 use Rattle.history_text.specs.declared.meaning.Act.{Act}
 use Rattle.link_service.specs.Service.{ServiceView, state_of}
@@ -38,10 +37,11 @@ more_made n None false v w g act rest made one =
 more_made n None true v w g act rest made one = absurd made
 more_made n (Some seen) false v w g act rest made one = absurd made
 more_made n (Some seen) true v w g act rest made one =
-    let a : Numbered = record { line = n; act = act } in
-    (Some (seen.0, seen.1 ++ a ∷ []),
-     ap (λ acts. record { setting = seen.0; acts = acts; wrong = rest.wrong }) (sym (append_assoc seen.1 (a ∷ []) rest.acts)),
-     run_snoc (start_state seen.0) (state_of v) (state_of w) seen.1 a made one)
+    let a : Numbered = record { line = n; act = act } in (
+      Some (seen.0, seen.1 ++ a ∷ []),
+      ap (λ acts. record { setting = seen.0; acts = acts; wrong = rest.wrong }) (sym (append_assoc seen.1 (a ∷ []) rest.acts)),
+      run_snoc (start_state seen.0) (state_of v) (state_of w) seen.1 a made one,
+    )
 
 -- the steps so far and perhaps one more
 one_more : (n : ℕ) (seen : Seen) (old new : History) (act : Option Act) (rest : Told) → HasMade seen old.begun old.service → Does old act new
@@ -117,14 +117,15 @@ fails X bytes n ps t ts old fault.NotAllowed split is at =
     subst (λ x. IsRefusedAt x (n + 1)) (sym e)
     (refused_at (n + 1) at.seen old.begun old.service is.given is.act (lines_told (n + 1) is.given ts) at.made is.fault)
 fails X bytes n ps t ts old fault.Form split (inl formless) at =
-    let e = at.told ∙ ap (joined at.seen) (formless_told n old.draft ps t ts old split formless) in
-    (ap (λ x. x.wrong) e ∙ wrong_kept at.seen (record { setting = setting_given old.draft; acts = []; wrong = Some (n + 1) }),
-     subst IsRunOf (sym e) (ended at.seen old.begun old.service (setting_given old.draft) (Some (n + 1)) at.made))
+    let e = at.told ∙ ap (joined at.seen) (formless_told n old.draft ps t ts old split formless) in (
+      ap (λ x. x.wrong) e ∙ wrong_kept at.seen (record { setting = setting_given old.draft; acts = []; wrong = Some (n + 1) }),
+      subst IsRunOf (sym e) (ended at.seen old.begun old.service (setting_given old.draft) (Some (n + 1)) at.made),
+    )
 fails X bytes n ps t ts old fault.Form split (inr stopped) at =
     let e = at.told ∙ ap (joined at.seen) (next_told n old.draft stopped.given (Some stopped.act) ps t ts split stopped.read) in
     absurd
     (invalid_at (n + 1) at.seen old.begun old.service stopped.given stopped.act (lines_told (n + 1) stopped.given ts) at.made stopped.fault.0 stopped.fault.1
-        (subst (λ x. IsValid x.setting) e (setting_is_valid bytes)))
+    (subst (λ x. IsValid x.setting) e (setting_is_valid bytes)))
 
 -- no line is left
 end_told : (n : ℕ) (g : Given) (ps : List (List ℕ)) → ps ≡ [] → lines_told n g ps ≡ record { setting = setting_given g; acts = []; wrong = missing_at n g.stage }
@@ -133,9 +134,10 @@ end_told n g ps none = ap (lines_told n g) none
 
 all_told : (bytes : List ℕ) (n : ℕ) (ps : List (List ℕ)) (h : History) → ps ≡ [] → IsAt bytes n ps h → ((told_by bytes).wrong ≡ missing_at n h.draft.stage) × IsRunOf (told_by bytes)
 all_told bytes n ps h none at =
-    let e = at.told ∙ ap (joined at.seen) (end_told n h.draft ps none) in
-    (ap (λ x. x.wrong) e ∙ wrong_kept at.seen (record { setting = setting_given h.draft; acts = []; wrong = missing_at n h.draft.stage }),
-     subst IsRunOf (sym e) (ended at.seen h.begun h.service (setting_given h.draft) (missing_at n h.draft.stage) at.made))
+    let e = at.told ∙ ap (joined at.seen) (end_told n h.draft ps none) in (
+      ap (λ x. x.wrong) e ∙ wrong_kept at.seen (record { setting = setting_given h.draft; acts = []; wrong = missing_at n h.draft.stage }),
+      subst IsRunOf (sym e) (ended at.seen h.begun h.service (setting_given h.draft) (missing_at n h.draft.stage) at.made),
+    )
 
 pub ends_well : {X : Type 0} (x : X) (bytes : List ℕ) (n : ℕ) (ps : List (List ℕ)) (h : History) → ps ≡ [] → missing_at n h.draft.stage ≡ None → IsAt bytes n ps h
     → IsAnswer (told_by bytes) (Ok x)

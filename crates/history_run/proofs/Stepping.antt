@@ -1,6 +1,6 @@
 -- What is known of the parts of a line makes what is told of the whole.
-use Rattle.std.proofs.Common.{◌≡◌, ◌⊎◌, inl, inr, false, Option, Some, None, Result, Ok, Err, List, ℕ, refl, sym, subst}
-use Rattle.history_run.specs.Runs.{IsAct, IsActAllowed}
+use Rattle.std.proofs.Common.{sym, subst}
+use Rattle.history_run.specs.Runs.{IsActAllowed}
 use Rattle.history_run.specs.Follow.{IsActFault, IsBeginFault, IsStepFault, Begins, state_now, fault_of_apply}
 use Rattle.history_run.specs.declared.fault.HistoryFault.{HistoryFault}
 use Rattle.history_run.specs.declared.fault.HistoryFault.TheVariants as fault

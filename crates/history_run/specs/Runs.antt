@@ -4,7 +4,7 @@ use Rattle.charlotte_calls.specs.declared.names.EndId.{EndId}
 use Rattle.charlotte_calls.specs.declared.names.Pid.{Pid}
 use Rattle.history_run.specs.declared.fault.TextFault.{TextFault}
 use Rattle.history_run.specs.declared.fault.TextFault.TheVariants as fault
-use Rattle.history_text.specs.Lines.{Numbered, Told, told_by}
+use Rattle.history_text.specs.Lines.{Numbered, Told}
 use Rattle.history_text.specs.declared.meaning.Act.{Act}
 use Rattle.service_step.specs.Ends.{is_owned_by}
 use Rattle.service_step.specs.Run.{start_state}

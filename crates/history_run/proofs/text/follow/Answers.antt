@@ -1,4 +1,4 @@
-use Rattle.std.proofs.Common.{◌≡◌, ◌+◌, ◌∷◌, [], None, Some, List, ℕ, refl, length, option_copied, ap, subst, arith}
+use Rattle.std.proofs.Common.{◌≡◌, ◌∷◌, [], None, Some, refl, length, option_copied, ap, subst, arith}
 use Rattle.charlotte_text.specs.Reading.{rest_parts}
 use Rattle.history_run.proofs.Following.{few_parts, goes_on, begins, fails, ends_well, ends_early}
 use Rattle.history_run.proofs.text.follow.Goals as goal
@@ -28,7 +28,7 @@ returns-in-Err c =
     let split : rest_parts 10 (option_copied c.loop-rest.rest) ≡ c.first_line.result.0.now ∷ rest_parts 10 (option_copied c.first_line.result.1) = rw c.in-Some.is c.first_line.ensures in
     rw c.at.ensures
     (fails (Unit {0}) c.args.bytes.now c.loop-rest.line (rest_parts 10 (option_copied c.loop-rest.rest)) c.first_line.result.0.now (rest_parts 10 (option_copied c.first_line.result.1))
-        c.loop-rest.history c.in-Err.fault split c.in-Err.ensures c.loop-rest.invariant.so_far)
+    c.loop-rest.history c.in-Err.fault split c.in-Err.ensures c.loop-rest.invariant.so_far)
 
 pub returns-then-has_begun : goal.returns-then-has_begun
 returns-then-has_begun c =
