@@ -69,7 +69,12 @@ impl Verdict {
     {
         match self {
             Verdict::Yes => bytes_of(alloc, b"yes\n"),
-            Verdict::Form { line } => line_text(alloc, name, *line, b"form: no history has this line there\n"),
+            Verdict::Form { line } => line_text(
+                alloc,
+                name,
+                *line,
+                b"form: no history has this line there\n",
+            ),
             Verdict::No { line, why } => no_text(alloc, name, *line, why.as_slice()),
             Verdict::Usage => bytes_of(alloc, b"lynx: usage\n"),
             Verdict::Absent => file_text(alloc, name, b": absent\n"),
