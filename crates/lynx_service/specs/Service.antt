@@ -24,9 +24,9 @@ most_bytes = 67108864
 -- `Yes` where the text is one run of the service, `Form` and `No` with the first line that has no form in its place or whose step is not allowed there;
 -- want of memory comes at any text
 abbrev pub Finds : List ℕ → Verdict → Type 0
-Finds bytes verdict.Yes = IsAnswer (told_by bytes) (Ok tt)
-Finds bytes (verdict.Form line) = IsAnswer {Unit {0}} (told_by bytes) (Err (fault.Form line))
-Finds bytes (verdict.No line why) = IsAnswer {Unit {0}} (told_by bytes) (Err (fault.NotAllowed line))
+Finds bytes verdict.Yes = IsAnswer {X = Unit {0}} (told_by bytes) (Ok (tt {0}))
+Finds bytes (verdict.Form line) = IsAnswer {X = Unit {0}} (told_by bytes) (Err (fault.Form line))
+Finds bytes (verdict.No line why) = IsAnswer {X = Unit {0}} (told_by bytes) (Err (fault.NotAllowed line))
 Finds bytes verdict.NoMemory = Unit {0}
 Finds bytes verdict.Usage = ⊥
 Finds bytes verdict.Absent = ⊥
