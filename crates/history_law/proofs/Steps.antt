@@ -14,7 +14,7 @@ run_made : (s : State) (acts : List Numbered) (t : State) → IsRun s acts t
 run_made s [] t run = ([], refl, tt)
 run_made s (a ∷ acts) t run =
     let rest = run_made run.0 acts t run.2 in
-    ((a.act.step, run.0) ∷ rest.0, ap (λ steps. a.act.step ∷ steps) rest.1, run.1.made, rest.2)
+    ((a.act.step, run.0) ∷ rest.0, ap (λ steps. a.act.step ∷ steps) rest.1, (run.1.made, rest.2))
 
 pub accepted_is_lawful : (bytes : List ℕ) → IsRunOf (told_by bytes)
     → (run : List (ServiceStep × State)) × (map (λ made. made.0) run ≡ map (λ told. told.act.step) (told_by bytes).acts)
