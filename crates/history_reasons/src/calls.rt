@@ -90,10 +90,17 @@ fn has_activity(service: &Service, p: Pid) -> bool {
 fn end_of(service: &Service, p: Pid, call: &Call, cause: Cause) -> Option<EndId> {
     match (call, cause) {
         (
-            Call::Destroy { on } | Call::Send { on, .. } | Call::Receive { on } | Call::Cancel { on, .. },
+            Call::Destroy { on }
+            | Call::Send { on, .. }
+            | Call::Receive { on }
+            | Call::Cancel { on, .. },
             Cause::NoEnd,
         ) => Some(*on),
-        (Call::Send { enclose, .. }, Cause::EncloseNoEnd) => first_of_others(service, p, enclose.as_slice()),
+        (Call::Send { enclose, .. }, Cause::EncloseNoEnd) => first_of_others(
+            service,
+            p,
+            enclose.as_slice(),
+        ),
         _ => None,
     }
 }

@@ -77,11 +77,7 @@ impl Telling<'_> {
     }
 
     /// How far the receive of an end is, and how far it would have to be.
-    pub(crate) fn receive(
-        &mut self,
-        e: EndId,
-        wanted: &[u8],
-    ) -> Result<(), NoMemory> {
+    pub(crate) fn receive(&mut self, e: EndId, wanted: &[u8]) -> Result<(), NoMemory> {
         self.of_end(b"the receive of ", e)?;
         self.words(b" is ")?;
         self.words(name_of_receive(self.service.links().look(e).inward()))?;

@@ -13,7 +13,12 @@ impl Telling<'_> {
             ServiceStep::Make { p, .. } => self.call(*p, &Call::Make),
             ServiceStep::Refuse { p, call, .. } => self.refusal(*p, call),
             ServiceStep::Destroy { on } => self.owned(act, &Call::Destroy { on: *on }),
-            ServiceStep::Send { on, bytes, enclose, .. } => self.send(act, &send(*on, bytes, enclose)),
+            ServiceStep::Send {
+                on,
+                bytes,
+                enclose,
+                ..
+            } => self.send(act, &send(*on, bytes, enclose)),
             ServiceStep::Receive { on } => self.owned(act, &Call::Receive { on: *on }),
             ServiceStep::Cancel { on, way } => {
                 let call = Call::Cancel { on: *on, way: *way };
@@ -68,12 +73,7 @@ impl Telling<'_> {
         self.receive(on.opposite(), b"posted")
     }
 
-    fn take(
-        &mut self,
-        message: (EndId, u32),
-        p: Pid,
-        late: bool,
-    ) -> Result<(), NoMemory> {
+    fn take(&mut self, message: (EndId, u32), p: Pid, late: bool) -> Result<(), NoMemory> {
         if self.is_not(message, Course::Matched)? {
             return Ok(());
         }
@@ -121,7 +121,9 @@ impl Telling<'_> {
             return Ok(());
         }
         let opposite = message.0.opposite();
-        if !self.service.place(opposite).is_destroyed() && !self.service.links().look(opposite).noticed() {
+        if !self.service.place(opposite).is_destroyed()
+            && !self.service.links().look(opposite).noticed()
+        {
             return self.place(opposite);
         }
         self.flag(!dead, message.0)

@@ -17,7 +17,7 @@ module _ (scope : Scope) (g : Given) (front : List EndId) (most : ℕ) (ps : Lis
   end_goes_on w ws e lt p h so_far =
       let k : most - length front ≡ suc (most - length (front ++ e ∷ [])) = omega (arith, length-append front (e ∷ [])) in
       let one : with_front front (ends_of scope g (most - length front) ps) ≡ with_front (front ++ e ∷ []) (ends_of scope g (most - length (front ++ e ∷ [])) ws) =
-          rw (p, k, h) (regroup front e (ends_of scope g (most - length (front ++ e ∷ [])) ws)) in
+      rw (p, k, h) (regroup front e (ends_of scope g (most - length (front ++ e ∷ [])) ws)) in
       sym one ∙ so_far
 
   pub end_fails : (w : List ℕ) (ws : List (List ℕ)) (f : Fault) → length front < most → ps ≡ w ∷ ws → plus_end_of scope g w ≡ Err f

@@ -109,7 +109,7 @@ process_ok g ws =
     let last = λ (name : List ℕ) (home : ℕ). if nat_lt (length g.homes) 64 then Ok (name, record { 0 = length g.homes }, home) else Err Form in
     behind (IsNext g) (first_of (untold g.processes) ws) (λ name. home_of name.1 >>= λ home. last name.0 home)
     (λ name. then_ok (λ home. home < 8) (IsNext g) (home_of name.1) (λ home. last name.0 home) (home_ok name.1)
-        (λ home lt. if_ok (IsNext g) (nat_lt (length g.homes) 64) (Ok (name.0, record { 0 = length g.homes }, home)) (λ e. (ltb-true (length g.homes) 64 e, refl, lt))))
+    (λ home lt. if_ok (IsNext g) (nat_lt (length g.homes) 64) (Ok (name.0, record { 0 = length g.homes }, home)) (λ e. (ltb-true (length g.homes) 64 e, refl, lt))))
 
 -- the greater of two is no less than each, and within what both are
 greater_by : (a b most : ℕ) (t : Bool) → nat_lt a b ≡ t → a ≤ most → b ≤ most
@@ -181,10 +181,10 @@ wire_ok g ws well =
     let from_as = λ (p q : Pid) (ws : List (List ℕ)). first_of (this_word (codes "as")) ws >>= λ u. from_name p q u.1 in
     then_ok (λ p. P p.0) (IsJoin g) (first_of (told g.processes) ws) (λ p. first_of (told g.processes) p.1 >>= λ q. from_as p.0 q.0 q.1) (first_ok P (told g.processes) (told_ok g well) ws)
     (λ p p_lt. then_ok (λ q. P q.0) (IsJoin g) (first_of (told g.processes) p.1) (λ q. from_as p.0 q.0 q.1) (first_ok P (told g.processes) (told_ok g well) p.1)
-        (λ q q_lt. behind (IsJoin g) (first_of (this_word (codes "as")) q.1) (λ u. from_name p.0 q.0 u.1)
-            (λ u. behind (IsJoin g) (only_of (untold g.links) u.1) (λ name. from_link p.0 q.0 name)
-                (λ name. behind (IsJoin g) (found (next_given g p.0)) (λ link. last name link p.0 q.0)
-                    (λ link. if_ok (IsJoin g) (nat_lt (length g.wires) 4096) (Ok (name, link, p.0, q.0)) (λ e. (ltb-true (length g.wires) 4096 e, p_lt, q_lt)))))))
+    (λ q q_lt. behind (IsJoin g) (first_of (this_word (codes "as")) q.1) (λ u. from_name p.0 q.0 u.1)
+    (λ u. behind (IsJoin g) (only_of (untold g.links) u.1) (λ name. from_link p.0 q.0 name)
+    (λ name. behind (IsJoin g) (found (next_given g p.0)) (λ link. last name link p.0 q.0)
+    (λ link. if_ok (IsJoin g) (nat_lt (length g.wires) 4096) (Ok (name, link, p.0, q.0)) (λ e. (ltb-true (length g.wires) 4096 e, p_lt, q_lt)))))))
 
 wire_keeps : (g : Given) (r : Result (List ℕ × LinkId × Pid × Pid) Fault) → IsWell g → IfOk r (IsJoin g) → Keeps g (by_wire r)
 unfolding with_meaning Keeps IsJoin
@@ -234,7 +234,7 @@ process_line_keeps g word ws well =
     let Q = λ (said : Said). IsWell (with_meaning g said.0) in
     behind Q (before_last 58 word) (λ name. told g.processes name >>= λ p. part_at ws >>= λ first. deed_of g p first.0 first.1)
     (λ name. behind Q (told g.processes name) (λ p. part_at ws >>= λ first. deed_of g p first.0 first.1)
-        (λ p. behind Q (part_at ws) (λ first. deed_of g p first.0 first.1) (λ first. deed_keeps g p first.0 first.1 well)))
+    (λ p. behind Q (part_at ws) (λ first. deed_of g p first.0 first.1) (λ first. deed_keeps g p first.0 first.1 well)))
 
 -- ---- lines
 

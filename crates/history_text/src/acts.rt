@@ -68,13 +68,7 @@ impl Draft {
 
     /// What a process did.
     #[tactic(auto, unfolding(crate::specs::Forms::deed_of))]
-    fn deed(
-        &self,
-        p: Pid,
-        verb: &[u8],
-        words: Words<'_>,
-        act: &mut Act,
-    ) -> Result<Meaning, Fault>
+    fn deed(&self, p: Pid, verb: &[u8], words: Words<'_>, act: &mut Act) -> Result<Meaning, Fault>
         ensures { Tells result act.new (deed_of self.now p verb.now words.entry) }
     {
         if is_this(verb, b"make") {

@@ -45,7 +45,9 @@ impl Draft {
         match (over.way, over.outcome) {
             (Way::Outward, Outcome::Destroyed) => self.returned(over.p, over.on, words, act),
             (Way::Inward, Outcome::Done) => self.received(over.p, over.on, words, act),
-            (Way::Outward, Outcome::Done) | (Way::Inward, Outcome::Destroyed) => bare(over, words, act),
+            (Way::Outward, Outcome::Done) | (Way::Inward, Outcome::Destroyed) => bare(
+                over, words, act,
+            ),
         }
     }
 

@@ -6,7 +6,9 @@ ghost use Rattle.transcript_reading.specs.Forms.{first_of, only_of, u32_of, caus
 ghost use Rattle.history_text.specs.Forms.{version_of};
 
 use charlotte_calls::{Bytes, Cause, Outcome, Way};
-use charlotte_text::{Fault, cut, end_of_line, is_word, next_word, read_below, read_bytes, read_way};
+use charlotte_text::{
+    Fault, cut, end_of_line, is_word, next_word, read_below, read_bytes, read_way,
+};
 use std::marker::Model;
 use transcript_lines::cause_name;
 

@@ -29,6 +29,6 @@ loop-word-preserved c = record {
 pub returns : goal.returns
 returns c =
     let all = ends_done c.args.scope c.args.self.now c.loop-word.ends.items c.args.most c.loop-word.rest (ends_of c.args.scope c.args.self.now c.args.most c.args.words)
-        c.in_default.ensures c.loop-word.invariant.so_far in
+    c.in_default.ensures c.loop-word.invariant.so_far in
     let same = c.as_slice.ensures.value in
     c.ok_or.ensures.value ∙ kept_ends c.loop-word.ends.items c.from_slice.result (omega arith) (rw same at c.from_slice.ensures.long) (rw same at c.from_slice.ensures.same) ∙ sym all
