@@ -1,6 +1,7 @@
-pub mod Steps
-pub mod Shapes
-pub mod Posts
-pub mod Found
 pub mod Again
+pub mod Found
+pub mod Hostless
 pub mod Names
+pub mod Posts
+pub mod Shapes
+pub mod Steps

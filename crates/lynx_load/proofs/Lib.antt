@@ -1,0 +1,4 @@
+pub mod Modules
+pub mod Planned
+pub mod Starting
+pub mod Wiring
