@@ -87,12 +87,7 @@ fn first_of<T: Drop>(list: &mut VecDeque<T>) -> T
 }
 
 /// The program of a process that runs this code with these ends.
-fn start_role(
-    alloc: Global,
-    version: u8,
-    code: Code,
-    ends: Vec<EndId>,
-) -> Result<Role, NoMemory>
+fn start_role(alloc: Global, version: u8, code: Code, ends: Vec<EndId>) -> Result<Role, NoMemory>
     requires version { (version ≡ 1) ⊎ (version ≡ 2) }
     requires checked { IsCheckedCode code }
     requires fit { length ends.items ≡ code.params }

@@ -60,7 +60,7 @@ module _ {P : Type 0} where
       let same : q ≡ p = cc in (
         0,
         ap (λ b. slice_get (with_one b (record { 0 = i }, q) (programs_from k (i + 1) homes ps)) 0) (eq-eqb home k at_home)
-        ∙ ap (λ j. Some (record { 0 = j }, q)) (omega arith) ∙ ap (λ r. Some (record { 0 = i + 0 }, r)) same,
+            ∙ ap (λ j. Some (record { 0 = j }, q)) (omega arith) ∙ ap (λ r. Some (record { 0 = i + 0 }, r)) same,
       )
   on-there k i (home ∷ homes) (q ∷ ps) (suc n) p below at_home at =
       let rest = on-there k (i + 1) homes ps n p (omega (arith, below)) at_home at in

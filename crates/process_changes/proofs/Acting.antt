@@ -57,7 +57,7 @@ module _ (thread : ℕ) (s : State) where
       ChangesBy s (record { state = t; deeds = deeds_on h.end (deeds_of s.version w h.kept) })
   one_does h w t there may places version = record {
     changes = subst (λ (ps : List Place). Changes s.version s.places (deeds_on h.end (deeds_of s.version w h.kept)) ps) (sym places)
-      (just s.version s.places _ _ (Does h.number h.end h.kept w s.places there may));
+        (just s.version s.places _ _ (Does h.number h.end h.kept w s.places there may));
     version = version;
   }
 
@@ -67,7 +67,7 @@ module _ (thread : ℕ) (s : State) where
       let gone : List Place = with_holding h.number (Gone (returns h.kept.sending)) s.places in
       record {
         changes = subst (λ (ps : List Place). Changes s.version s.places [] ps) (sym (raised_places (raised (fallen h.kept)) exceptions.DeadLink _))
-          (Then s.places [] gone [] (hold_all (held_again (fallen h.kept)) gone) (Destroys h.number h.end h.kept s.places there) (holds s.version (held_again (fallen h.kept)) gone));
+            (Then s.places [] gone [] (hold_all (held_again (fallen h.kept)) gone) (Destroys h.number h.end h.kept s.places there) (holds s.version (held_again (fallen h.kept)) gone));
         version = raised_version (raised (fallen h.kept)) exceptions.DeadLink _;
       }
 
@@ -80,8 +80,8 @@ module _ (thread : ℕ) (s : State) where
       let going : Going h s s.version (links_in vs) [] s.places = goes_away h s s.version (links_in vs) [] s.places there none (λ m e. refl) refl in
       record {
         changes = subst (λ (ps : List Place). Changes s.version s.places (deeds_on h.end (deeds_of s.version w h.kept)) ps) (sym places)
-          (chain s.version s.places [] (let_go (links_in vs) s.places) _ _ going.changes
-          (just s.version (let_go (links_in vs) s.places) _ _ (Does h.number h.end h.kept w (let_go (links_in vs) s.places) (going.same ∙ there) may)));
+            (chain s.version s.places [] (let_go (links_in vs) s.places) _ _ going.changes
+            (just s.version (let_go (links_in vs) s.places) _ _ (Does h.number h.end h.kept w (let_go (links_in vs) s.places) (going.same ∙ there) may)));
         version = version;
       }
 

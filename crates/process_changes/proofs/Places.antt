@@ -139,7 +139,7 @@ module _ (on : Held) (s : State) where
       let here = held_here n may.held s may.at in
       let number : may.held.number ≡ n = here.number in
       let there : IsHeld n may.held.end may.held.kept ps =
-          same n (ap (λ (k : ℕ). list_any (λ i. i == k) before) (sym number) ∙ may.new) ∙ subst (λ (k : ℕ). IsHeld k may.held.end may.held.kept s.places) number here.there in
+      same n (ap (λ (k : ℕ). list_any (λ i. i == k) before) (sym number) ∙ may.new) ∙ subst (λ (k : ℕ). IsHeld k may.held.end may.held.kept s.places) number here.there in
       record {
         changes = Then ps [] (with_holding n (Gone false) ps) [] (let_go ns (with_holding n (Gone false) ps)) (LetsGo n may.held.end may.held.kept ps there may.rests) rest.changes;
         same = rest.same;

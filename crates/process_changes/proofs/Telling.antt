@@ -65,9 +65,10 @@ same_tell s t places version = (subst (λ (ps : List Place). Tellings s.version 
 
 -- what falls with an end
 falls_tell : (f : Fallen) (s : State) → Tell s [] (falls f s)
-falls_tell f s =
-    (subst (λ (ps : List Place). Tellings s.version s.places [] ps) (sym (raised_places (raised f) exceptions.DeadLink _)) (of_changes s.version s.places [] _ (holds s.version (held_again f) s.places)),
-    raised_version (raised f) exceptions.DeadLink _)
+falls_tell f s = (
+  subst (λ (ps : List Place). Tellings s.version s.places [] ps) (sym (raised_places (raised f) exceptions.DeadLink _)) (of_changes s.version s.places [] _ (holds s.version (held_again f) s.places)),
+  raised_version (raised f) exceptions.DeadLink _,
+)
 
 -- ---- where an end stands
 
@@ -268,7 +269,7 @@ report_told r s = by_place (place_at (number_of r.on s.places) s.places) refl
     by_holding : (p : Place) (g : Holding) → p.holding ≡ g → place_at (number_of r.on s.places) s.places ≡ Some p → Tell s (reported_in (number_of r.on s.places) g r s).deeds (reported_in (number_of r.on s.places) g r s).state
     by_holding p (Keeps k) is at =
         let same : p ≡ record { end = r.on; holding = Keeps k } =
-            ap (λ (x : EndId). record p { end = x }) (numbered r.on s.places p at) ∙ ap (λ (g : Holding). record { end = r.on; holding = g }) is in
+        ap (λ (x : EndId). record p { end = x }) (numbered r.on s.places p at) ∙ ap (λ (g : Holding). record { end = r.on; holding = g }) is in
         reported_told s (number_of r.on s.places) r.on k (at ∙ ap (λ (q : Place). Some q) same) r.way r.outcome r
     by_holding p (Gone own) is at = off_told own r.way r s
 

@@ -36,7 +36,7 @@ module _ (version : ℕ) where
     is_cut = was.is_cut;
     near = subst (λ (x : Exchange). WasAsked version (asking j) (serving l.far) (forth_in l.there) (back_in l.here) x) (asks_with l j l.here l.there l.cut ds) (keeps.asks (serving l.far) (forth_in l.there) (back_in l.here) (exchange l) was.near);
     far = subst (λ (x : Exchange). WasAsked version (asking l.far) (serving j) (forth_in l.here) (back_in l.there) x) (serves_with l j l.here l.there l.cut ds)
-      (keeps.serves (asking l.far) (forth_in l.here) (back_in l.there) (exchange (turned l)) was.far);
+        (keeps.serves (asking l.far) (forth_in l.here) (back_in l.there) (exchange (turned l)) was.far);
   }
 
   pub happens_cut : (l : Link) (h : Happening) → MayHappen h l.near → WasCut version l → WasCut version (happened version h l)
@@ -113,22 +113,22 @@ module _ (version : ℕ) where
       }))
       (λ (still : ServesStill version s F x). inr (record {
         comes = ⊎_elim (λ (none : F ≡ []). inl (none_before G (subst (λ (l : List Message). IsPrefix G l) none fewer)))
-          (λ (some : RequestComes version F x ⊎ EndsCome s F x).
-          ⊎_elim (λ (q : RequestComes version F x). request q (front_one G _ (subst (λ (l : List Message). IsPrefix G l) q.only fewer)))
-          (λ (q : EndsCome s F x). inr (inr (record {
-            connect = q.connect;
-            by = q.by;
-            came = q.came;
-            coming = q.coming;
-            links = q.links;
-            all = q.all;
-            request = q.request;
-            unowed = q.unowed;
-            first = front_chain G F _ fewer q.first;
-            next = q.next;
-          })))
-          some)
-          still.comes;
+            (λ (some : RequestComes version F x ⊎ EndsCome s F x).
+            ⊎_elim (λ (q : RequestComes version F x). request q (front_one G _ (subst (λ (l : List Message). IsPrefix G l) q.only fewer)))
+            (λ (q : EndsCome s F x). inr (inr (record {
+              connect = q.connect;
+              by = q.by;
+              came = q.came;
+              coming = q.coming;
+              links = q.links;
+              all = q.all;
+              request = q.request;
+              unowed = q.unowed;
+              first = front_chain G F _ fewer q.first;
+              next = q.next;
+            })))
+            some)
+            still.comes;
         numbers = still.numbers;
       }))
       serves
@@ -186,15 +186,15 @@ module _ (version : ℕ) where
     back_cut y other aside on = record {
       is_cut = was.is_cut;
       near = subst (λ (x : Exchange). WasAsked version (asking y.0) (serving l.far) (forth_in l.there) (back_in rest) x)
-        (ap (λ (is : List Request). record (exchange l) { issued = is; returned = returned l.near_deeds ++ returned (heard_deeds y.1) })
-        (sym (ap (λ (is : List Request). issued l.near_deeds ++ is) (none_issued y.1) ∙ append-nil (issued l.near_deeds)))
-        ∙ asks_with l y.0 rest l.there l.cut (heard_deeds y.1))
-        (record { requests = was.near.requests; replies = on.replies; serves = serves_still was.near.serves; hears = on.returns });
+          (ap (λ (is : List Request). record (exchange l) { issued = is; returned = returned l.near_deeds ++ returned (heard_deeds y.1) })
+          (sym (ap (λ (is : List Request). issued l.near_deeds ++ is) (none_issued y.1) ∙ append-nil (issued l.near_deeds)))
+          ∙ asks_with l y.0 rest l.there l.cut (heard_deeds y.1))
+          (record { requests = was.near.requests; replies = on.replies; serves = serves_still was.near.serves; hears = on.returns });
       far = subst (λ (x : Exchange). WasAsked version (asking l.far) (serving y.0) (forth_in rest) (back_in l.there) x) (serves_with l y.0 rest l.there l.cut (heard_deeds y.1))
-        (serves_cut version l.near y.0 (heard_deeds y.1) aside.none
-        (serves_on version l.near y.0 (heard_deeds y.1) (sym (ap (λ (s : Serving). s.owed) aside.same)) (sym (ap (λ (s : Serving). s.request) aside.same)) (sym (ap (λ (s : Serving). s.dead) aside.same)) (none_replied y.1))
-        (asking l.far) (forth_in rest) (back_in l.there) (exchange (turned l))
-        (subst (λ (ms : List Message). WasAsked version (asking l.far) (serving l.near) ms (back_in l.there) (exchange (turned l))) (ap forth_in comes ∙ forth_other m rest other) was.far));
+          (serves_cut version l.near y.0 (heard_deeds y.1) aside.none
+          (serves_on version l.near y.0 (heard_deeds y.1) (sym (ap (λ (s : Serving). s.owed) aside.same)) (sym (ap (λ (s : Serving). s.request) aside.same)) (sym (ap (λ (s : Serving). s.dead) aside.same)) (none_replied y.1))
+          (asking l.far) (forth_in rest) (back_in l.there) (exchange (turned l))
+          (subst (λ (ms : List Message). WasAsked version (asking l.far) (serving l.near) ms (back_in l.there) (exchange (turned l))) (ap forth_in comes ∙ forth_other m rest other) was.far));
     }
       where
         serves_still : Serves version (serving l.far) (forth_in l.there) (exchange l) → Serves version (serving l.far) (forth_in l.there) (record (exchange l) { returned = returned l.near_deeds ++ returned (heard_deeds y.1) })
@@ -206,13 +206,13 @@ module _ (version : ℕ) where
     forth_cut y own aside on = record {
       is_cut = was.is_cut;
       near = subst (λ (x : Exchange). WasAsked version (asking y.0) (serving l.far) (forth_in l.there) (back_in rest) x) (asks_with l y.0 rest l.there l.cut (heard_deeds y.1))
-        (asks_cut version l.near y.0 (heard_deeds y.1) aside.none (asks_same l.near y.0 aside.same) (serving l.far) (forth_in l.there) (back_in rest) (exchange l)
-        (subst (λ (ms : List Message). WasAsked version (asking l.near) (serving l.far) (forth_in l.there) ms (exchange l)) (ap back_in comes ∙ back_other m rest own) was.near));
+          (asks_cut version l.near y.0 (heard_deeds y.1) aside.none (asks_same l.near y.0 aside.same) (serving l.far) (forth_in l.there) (back_in rest) (exchange l)
+          (subst (λ (ms : List Message). WasAsked version (asking l.near) (serving l.far) (forth_in l.there) ms (exchange l)) (ap back_in comes ∙ back_other m rest own) was.near));
       far = subst (λ (x : Exchange). WasAsked version (asking l.far) (serving y.0) (forth_in rest) (back_in l.there) x)
-        (ap (λ (rs : List Response). record (exchange (turned l)) { accepted = accepted l.near_deeds ++ accepted (heard_deeds y.1); replied = rs })
-        (sym (ap (λ (rs : List Response). replied l.near_deeds ++ rs) (none_replied y.1) ∙ append-nil (replied l.near_deeds)))
-        ∙ serves_with l y.0 rest l.there l.cut (heard_deeds y.1))
-        (record { requests = on.requests; replies = was.far.replies; serves = on.serves; hears = returns_still was.far.hears });
+          (ap (λ (rs : List Response). record (exchange (turned l)) { accepted = accepted l.near_deeds ++ accepted (heard_deeds y.1); replied = rs })
+          (sym (ap (λ (rs : List Response). replied l.near_deeds ++ rs) (none_replied y.1) ∙ append-nil (replied l.near_deeds)))
+          ∙ serves_with l y.0 rest l.there l.cut (heard_deeds y.1))
+          (record { requests = on.requests; replies = was.far.replies; serves = on.serves; hears = returns_still was.far.hears });
     }
       where
         returns_still : Returns version (asking l.far) (back_in l.there) (exchange (turned l)) →

@@ -168,7 +168,7 @@ module _ (version : ℕ) where
     cut_connects j on same = record {
       asks = asks_cut k j (issued_deeds d k) refl on;
       serves = serves_cut k j (issued_deeds d k) refl
-        (serves_on k j (issued_deeds d k) (sym (ap (λ (s : Serving). s.owed) same)) (sym (ap (λ (s : Serving). s.request) same)) (sym (ap (λ (s : Serving). s.dead) same)) refl);
+          (serves_on k j (issued_deeds d k) (sym (ap (λ (s : Serving). s.owed) same)) (sym (ap (λ (s : Serving). s.request) same)) (sym (ap (λ (s : Serving). s.dead) same)) refl);
     }
 
     first_on : k.outstanding ≡ None → AsksOn k (asked version c k')
@@ -225,9 +225,9 @@ module _ (version : ℕ) where
         (⊎_elim (λ (d : k.dead ≡ true). (let e : true ≡ false = sym d ∙ lives in cc)) (λ (e : (k.owed ≡ None) × (F ≡ [])). not_none is e.0) no.over))
         (λ (still : ServesStill version (serving k) F x). inr (record {
           comes = ⊎_elim (λ (none : F ≡ []). inl none)
-            (λ (some : RequestComes version F x ⊎ EndsCome (serving k) F x). inr
-            (⊎_elim (λ (q : RequestComes version F x). inl (record { connect = q.connect; links = q.links; only = q.only; next = q.next })) (λ (e : EndsCome (serving k) F x). absurd (not_none is e.unowed)) some))
-            still.comes;
+              (λ (some : RequestComes version F x ⊎ EndsCome (serving k) F x). inr
+              (⊎_elim (λ (q : RequestComes version F x). inl (record { connect = q.connect; links = q.links; only = q.only; next = q.next })) (λ (e : EndsCome (serving k) F x). absurd (not_none is e.unowed)) some))
+              still.comes;
           numbers = replied_now x (serving k) r (owes is) still.numbers;
         }))
         serves

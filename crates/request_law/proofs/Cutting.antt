@@ -119,9 +119,9 @@ pub lives_cut : (version : ℕ) (l : Link) (there here : List Message) → IsPre
 lives_cut version l there here is_there is_here lives = record {
   is_cut = refl;
   near = way_cut version (asking l.near) (serving l.far) (forth_in l.there ++ forth_in l.near.queue) (back_in l.here ++ back_in l.far.queue) (forth_in there) (back_in here) (exchange l)
-    (front_more (forth_in there) (forth_in l.there) (forth_in l.near.queue) (front_filter _ there l.there is_there))
-    (front_more (back_in here) (back_in l.here) (back_in l.far.queue) (front_filter _ here l.here is_here)) lives.near.phase lives.near.at;
+      (front_more (forth_in there) (forth_in l.there) (forth_in l.near.queue) (front_filter _ there l.there is_there))
+      (front_more (back_in here) (back_in l.here) (back_in l.far.queue) (front_filter _ here l.here is_here)) lives.near.phase lives.near.at;
   far = way_cut version (asking l.far) (serving l.near) (forth_in l.here ++ forth_in l.far.queue) (back_in l.there ++ back_in l.near.queue) (forth_in here) (back_in there) (exchange (turned l))
-    (front_more (forth_in here) (forth_in l.here) (forth_in l.far.queue) (front_filter _ here l.here is_here))
-    (front_more (back_in there) (back_in l.there) (back_in l.near.queue) (front_filter _ there l.there is_there)) lives.far.phase lives.far.at;
+      (front_more (forth_in here) (forth_in l.here) (forth_in l.far.queue) (front_filter _ here l.here is_here))
+      (front_more (back_in there) (back_in l.there) (back_in l.near.queue) (front_filter _ there l.there is_there)) lives.far.phase lives.far.at;
 }

@@ -66,9 +66,11 @@ module _ (version : ℕ) where
   back_ends (LetCome c by) so = tt
   back_ends (Coming c by came e es) so = tt
   back_ends (Owed c) so = tt
-  back_ends (Replied c r) so =
-      (cut_once r.ends
-      ∙ ap (λ (l : List EndId). take (most_of version) r.ends ++ l) (sym (ends_of_encs 2 r.number 2 (take 7 (drop (most_of version) r.ends)) ∙ seven r.ends so.links.few)), tt)
+  back_ends (Replied c r) so = (
+    cut_once r.ends
+        ∙ ap (λ (l : List EndId). take (most_of version) r.ends ++ l) (sym (ends_of_encs 2 r.number 2 (take 7 (drop (most_of version) r.ends)) ∙ seven r.ends so.links.few)),
+    tt,
+  )
   back_ends (Returning c r came e es) so = (sym so.1 ∙ ap (λ (l : List EndId). came ++ l) (sym (ends_of_encs 2 r.number (length came + 1) (e ∷ es))), tt)
 
   each_as : (xs ys : List EndId) (rs : List Request) → xs ≡ ys → AllByRecursion (λ r. r.ends ≡ xs) rs → AllByRecursion (λ r. r.ends ≡ ys) rs
@@ -86,17 +88,17 @@ module _ (version : ℕ) where
         under_way = unaccepted p;
         issued_is = at.issued;
         ends = each_as (ends_at t) (places_of l.far.request (forth_on l) (back_on l) l.near.outstanding) (unaccepted p)
-          (sym
-          (ap (λ (w : Option Wanted). places_of w (forth_on l) (back_on l) l.near.outstanding) at.request
-          ∙ ap (λ (ms : List Message). places_of t.request ms (back_on l) l.near.outstanding) at.forth_is
-          ∙ ap (λ (ms : List Message). places_of t.request t.forth ms l.near.outstanding) at.back_is
-          ∙ ap (λ (o : Option Connect). places_of t.request t.forth t.back o) at.outstanding))
-          (phase_ends p at.so);
+            (sym
+            (ap (λ (w : Option Wanted). places_of w (forth_on l) (back_on l) l.near.outstanding) at.request
+            ∙ ap (λ (ms : List Message). places_of t.request ms (back_on l) l.near.outstanding) at.forth_is
+            ∙ ap (λ (ms : List Message). places_of t.request t.forth ms l.near.outstanding) at.back_is
+            ∙ ap (λ (o : Option Connect). places_of t.request t.forth t.back o) at.outstanding))
+            (phase_ends p at.so);
         coming_back = unreturned p;
         replied_is = at.replied;
         reply_ends_are = replies_as (reply_ends t.reply ++ ends_in t.back) (reply_ends l.near.reply ++ ends_in (back_on l)) (unreturned p)
-          (sym (ap (λ (o : Option Response). reply_ends o ++ ends_in (back_on l)) at.reply ∙ ap (λ (ms : List Message). reply_ends t.reply ++ ends_in ms) at.back_is))
-          (back_ends p at.so);
+            (sym (ap (λ (o : Option Response). reply_ends o ++ ends_in (back_on l)) at.reply ∙ ap (λ (ms : List Message). reply_ends t.reply ++ ends_in ms) at.back_is))
+            (back_ends p at.so);
       }
 
   -- seen from either end

@@ -122,7 +122,7 @@ module _ (version : ℕ) where
       asks = λ s F B x at. record {
         phase = at.phase;
         at = subst (λ (y : Exchange). IsAt version at.phase (record (asking k) { behind = k.behind ++ c ∷ [] }) s (F ++ forth_in k.queue) B y) (issued_one x)
-        (connects_behind version at.phase (asking k) s x c first (F ++ forth_in k.queue) B links there at.at);
+            (connects_behind version at.phase (asking k) s x c first (F ++ forth_in k.queue) B links there at.at);
       };
       serves = λ a F B x at. serves_as_before k (record k' { behind = k.behind ++ c ∷ [] }) (issued_deeds d k) a F B x refl refl refl refl at;
     }
@@ -224,7 +224,7 @@ module _ (version : ℕ) where
     to_queue p a F B x c number at = record {
       phase = p;
       at = subst (λ (l : List Message). IsAt version p a (record (serving k) { forbade = None }) F l x)
-      (ap (λ (n : ℕ). (B ++ back_in k.queue) ++ allow n ∷ []) number ∙ sym (queued_back B k.queue (allow f.number ∷ []))) at;
+          (ap (λ (n : ℕ). (B ++ back_in k.queue) ++ allow n ∷ []) number ∙ sym (queued_back B k.queue (allow f.number ∷ []))) at;
     }
 
     allow_serves : (a : Asking) (F B : List Message) (x : Exchange) (p : Phase) → IsAt version p a (serving k) F (B ++ back_in k.queue) x → IsExchange version a (serving (allows f.number k)) F (B ++ back_in (allows f.number k).queue) x

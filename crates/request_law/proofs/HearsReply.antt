@@ -87,7 +87,7 @@ module _ (version : ℕ) (room : Bool) (k : Kept) (s : Serving) (x : Exchange) (
         exchange = record {
           phase = Asked c;
           at = subst (λ (l : List Message). IsAt version (Asked c) (asking (asked version c j)) s l B (record x { returned = x.returned ++ r ∷ [] })) (sym (queued_forth F k.queue (request_of version c ∷ [])))
-          (returns_next version (asking k) s x r c cs (F ++ forth_in k.queue) B are last);
+              (returns_next version (asking k) s x r c cs (F ++ forth_in k.queue) B are last);
         };
         serves = refl;
         queue = queued_back [] k.queue (request_of version c ∷ []) ∙ append-nil (back_in k.queue);
@@ -135,8 +135,8 @@ module _ (version : ℕ) (room : Bool) (k : Kept) (s : Serving) (x : Exchange) (
             exchange = record {
               phase = Returning c r (e ∷ []) y ys;
               at = subst (λ (z : Exchange). IsAt version (Returning c r (e ∷ []) y ys) (asking (record k { reply = Some (response_with (e ∷ []) r) })) s (F ++ forth_in k.queue) B z)
-              (ap (λ (l : List Response). record x { returned = l }) (sym (append-nil x.returned)))
-              (reply_begins version (asking k) s x c r e y ys m (F ++ forth_in k.queue) B one.are rest at);
+                  (ap (λ (l : List Response). record x { returned = l }) (sym (append-nil x.returned)))
+                  (reply_begins version (asking k) s x c r e y ys m (F ++ forth_in k.queue) B one.are rest at);
             };
             serves = refl;
             queue = refl;
@@ -197,8 +197,8 @@ module _ (version : ℕ) (room : Bool) (k : Kept) (s : Serving) (x : Exchange) (
     exchange = record {
       phase = Returning c r (came ++ e ∷ []) y ys;
       at = subst (λ (z : Exchange). IsAt version (Returning c r (came ++ e ∷ []) y ys) (asking (record k { reply = Some (grown came e r) })) s (F ++ forth_in k.queue) B z)
-      (ap (λ (l : List Response). record x { returned = l }) (sym (append-nil x.returned)))
-      (reply_grows version (asking k) s x c r came e y ys m (F ++ forth_in k.queue) B at);
+          (ap (λ (l : List Response). record x { returned = l }) (sym (append-nil x.returned)))
+          (reply_grows version (asking k) s x c r came e y ys m (F ++ forth_in k.queue) B at);
     };
     serves = refl;
     queue = refl;

@@ -105,12 +105,12 @@ module _ (version : ℕ) where
   pub sends_lives : (l : Link) (m : Message) (rest : List Message) → l.near.queue ≡ m ∷ rest → Lives version l → Lives version (sent_off version m l)
   sends_lives l m rest queue lives =
       let near : IsExchange version (asking l.near) (serving l.far) (forth_in l.there ++ forth_in (m ∷ rest)) (back_in l.here ++ back_in l.far.queue) (exchange l) =
-          subst (λ (q : List Message). IsExchange version (asking l.near) (serving l.far) (forth_in l.there ++ forth_in q) (back_in l.here ++ back_in l.far.queue) (exchange l)) queue lives.near in
+      subst (λ (q : List Message). IsExchange version (asking l.near) (serving l.far) (forth_in l.there ++ forth_in q) (back_in l.here ++ back_in l.far.queue) (exchange l)) queue lives.near in
       let far : IsExchange version (asking l.far) (serving l.near) (forth_in l.here ++ forth_in l.far.queue) (back_in l.there ++ back_in (m ∷ rest)) (exchange (turned l)) =
-          subst (λ (q : List Message). IsExchange version (asking l.far) (serving l.near) (forth_in l.here ++ forth_in l.far.queue) (back_in l.there ++ back_in q) (exchange (turned l))) queue lives.far in
+      subst (λ (q : List Message). IsExchange version (asking l.far) (serving l.near) (forth_in l.here ++ forth_in l.far.queue) (back_in l.there ++ back_in q) (exchange (turned l))) queue lives.far in
       let all : enclosing version m ≡ m =
-          encloses_all version m
-          (sends_short version (asking l.near) (asking l.far) (serving l.far) (serving l.near) l.there rest m (forth_in l.here ++ forth_in l.far.queue) (back_in l.here ++ back_in l.far.queue) (exchange l) (exchange (turned l)) near far) in
+      encloses_all version m
+      (sends_short version (asking l.near) (asking l.far) (serving l.far) (serving l.near) l.there rest m (forth_in l.here ++ forth_in l.far.queue) (back_in l.here ++ back_in l.far.queue) (exchange l) (exchange (turned l)) near far) in
       subst (λ (ms : List Message). Lives version (record l { near = sent l.near; there = ms }))
       (sym (ap (λ (b : Bool). if b then l.there else l.there ++ enclosing version m ∷ []) lives.uncut ∙ ap (λ (n : Message). l.there ++ n ∷ []) all))
       (sent_lives l m rest (sent l.near) (sent_asks l.near) (sent_serves l.near) (sent_queue l.near ∙ ap tail queue) queue lives)
@@ -184,10 +184,10 @@ module _ (version : ℕ) where
         by_packet : (b : Bool) → asks m.packet ≡ b → Lives version (heard_on version room m rest l) ⊎ IsMistyped version (serving l.far) (exchange l) (forth_in l.there) (back_in rest ++ back_in l.far.queue) m l.near (hears version room m.packet m.ends l.near)
         by_packet false e =
             let near : IsExchange version (asking l.near) (serving l.far) (forth_in l.there ++ forth_in l.near.queue) (m ∷ (back_in rest ++ back_in l.far.queue)) (exchange l) =
-                subst (λ (ms : List Message). IsExchange version (asking l.near) (serving l.far) (forth_in l.there ++ forth_in l.near.queue) (ms ++ back_in l.far.queue) (exchange l)) (ap back_in comes ∙ back_first m rest e) lives.near in
+            subst (λ (ms : List Message). IsExchange version (asking l.near) (serving l.far) (forth_in l.there ++ forth_in l.near.queue) (ms ++ back_in l.far.queue) (exchange l)) (ap back_in comes ∙ back_first m rest e) lives.near in
             back_so e (hears_back version room l.near (serving l.far) (exchange l) (forth_in l.there) (back_in rest ++ back_in l.far.queue) m near.phase near.at)
         by_packet true e =
             let far : IsExchange version (asking l.far) (serving l.near) (m ∷ (forth_in rest ++ forth_in l.far.queue)) (back_in l.there ++ back_in l.near.queue) (exchange (turned l)) =
-                subst (λ (ms : List Message). IsExchange version (asking l.far) (serving l.near) (ms ++ forth_in l.far.queue) (back_in l.there ++ back_in l.near.queue) (exchange (turned l))) (ap forth_in comes ∙ forth_first m rest e) lives.far in
+            subst (λ (ms : List Message). IsExchange version (asking l.far) (serving l.near) (ms ++ forth_in l.far.queue) (back_in l.there ++ back_in l.near.queue) (exchange (turned l))) (ap forth_in comes ∙ forth_first m rest e) lives.far in
             let h = hears_forth version room l.near (asking l.far) (exchange (turned l)) (forth_in rest ++ forth_in l.far.queue) (back_in l.there) m far.phase far.at in
             inl (read_so (hears version room m.packet m.ends l.near) h.read (forth_lives (hears version room m.packet m.ends l.near) e h))

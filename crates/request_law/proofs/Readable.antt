@@ -27,11 +27,11 @@ module _ (version : ℕ) (room : Bool) (l : Link) (m : Message) (rest : List Mes
       by_packet : (b : Bool) → asks m.packet ≡ b → IsReadable version room m l.near
       by_packet false e =
           let near : IsExchange version (asking l.near) (serving l.far) (forth_in l.there ++ forth_in l.near.queue) (m ∷ (back_in rest ++ back_in l.far.queue)) (exchange l) =
-              subst (λ (ms : List Message). IsExchange version (asking l.near) (serving l.far) (forth_in l.there ++ forth_in l.near.queue) (ms ++ back_in l.far.queue) (exchange l)) (ap back_in comes ∙ back_first m rest e) lives.near in
+          subst (λ (ms : List Message). IsExchange version (asking l.near) (serving l.far) (forth_in l.there ++ forth_in l.near.queue) (ms ++ back_in l.far.queue) (exchange l)) (ap back_in comes ∙ back_first m rest e) lives.near in
           back_readable (hears_back version room l.near (serving l.far) (exchange l) (forth_in l.there) (back_in rest ++ back_in l.far.queue) m near.phase near.at)
       by_packet true e =
           let far : IsExchange version (asking l.far) (serving l.near) (m ∷ (forth_in rest ++ forth_in l.far.queue)) (back_in l.there ++ back_in l.near.queue) (exchange (turned l)) =
-              subst (λ (ms : List Message). IsExchange version (asking l.far) (serving l.near) (ms ++ forth_in l.far.queue) (back_in l.there ++ back_in l.near.queue) (exchange (turned l))) (ap forth_in comes ∙ forth_first m rest e) lives.far in
+          subst (λ (ms : List Message). IsExchange version (asking l.far) (serving l.near) (ms ++ forth_in l.far.queue) (back_in l.there ++ back_in l.near.queue) (exchange (turned l))) (ap forth_in comes ∙ forth_first m rest e) lives.far in
           let h = hears_forth version room l.near (asking l.far) (exchange (turned l)) (forth_in rest ++ forth_in l.far.queue) (back_in l.there) m far.phase far.at in
           record { read = inl h.read }
 

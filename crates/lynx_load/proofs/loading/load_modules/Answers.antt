@@ -16,7 +16,7 @@ start_programs-requires-clause-codes g c =
     let after = g.F.Files.state c.load_codes.new.files in
     let files = c.args.plan.files in
     as_many before after files c.load_codes.new.codes.items
-        (onto_nothing before after files c.as_slice.result.now (Ok tt) c.new-codes.result.items c.load_codes.new.codes.items c.as_slice.ensures c.new-codes.ensures.items c.in-Ok.ensures.loads)
+    (onto_nothing before after files c.as_slice.result.now (Ok tt) c.new-codes.result.items c.load_codes.new.codes.items c.as_slice.ensures c.new-codes.ensures.items c.in-Ok.ensures.loads)
     ∙ (c.requires.runs (nil_from_length c.args.plan.hosts (eqb-true (length c.args.plan.hosts) 0 none))).0
 
 pub returns-in-Err-clause-loads : goal.returns-in-Err-clause-loads

@@ -17,7 +17,7 @@ pub returns-in-Some-clause-fits : goal.returns-in-Some-clause-fits
 returns-in-Some-clause-fits c =
     let each : List (List EndId) = map (λ ends. ends.items) c.in-Ok.each.items in
     let same = same_line c.args.codes.items c.as_slice.result.now each (map (λ ends. ends.items) c.as_slice-2.result.now) c.args.plan.lines c.as_slice-3.result.now c.as_slice.ensures.value
-            (ap (map (λ ends. ends.items)) c.as_slice-2.ensures.value) c.as_slice-3.ensures in
+    (ap (map (λ ends. ends.items)) c.as_slice-2.ensures.value) c.as_slice-3.ensures in
     unfit c.args.name.now c.args.plan c.args.codes.items each c.in-Some.line c.told.result c.in-Ok.ensures (c.in-Some.ensures ∙ same) c.told.ensures
 
 -- no line is unfit
@@ -25,7 +25,7 @@ all_fits : (c : goal.In_default-unfit_line) → unfit_line c.args.codes.items (m
 all_fits c =
     let each : List (List EndId) = map (λ ends. ends.items) c.in-Ok.each.items in
     let same = same_line c.args.codes.items c.as_slice.result.now each (map (λ ends. ends.items) c.as_slice-2.result.now) c.args.plan.lines c.as_slice-3.result.now c.as_slice.ensures.value
-            (ap (map (λ ends. ends.items)) c.as_slice-2.ensures.value) c.as_slice-3.ensures in
+    (ap (map (λ ends. ends.items)) c.as_slice-2.ensures.value) c.as_slice-3.ensures in
     sym same ∙ sym c.unfit_line.ensures ∙ c.in_default-unfit_line.is
 
 pub start_each-requires-clause-fit : goal.start_each-requires-clause-fit
@@ -37,7 +37,7 @@ pub returns-clause-fits : goal.returns-clause-fits
 returns-clause-fits c =
     let each : List (List EndId) = map (λ ends. ends.items) c.in-Ok.each.items in
     let same = same_line c.args.codes.items c.as_slice.result.now each (map (λ ends. ends.items) c.as_slice-2.result.now) c.args.plan.lines c.as_slice-3.result.now c.as_slice.ensures.value
-            (ap (map (λ ends. ends.items)) c.as_slice-2.ensures.value) c.as_slice-3.ensures in
+    (ap (map (λ ends. ends.items)) c.as_slice-2.ensures.value) c.as_slice-3.ensures in
     all_started c.args.name.now c.args.plan c.args.codes.items each (record { setting = c.args.plan.setting; programs = c.in-Ok-start_each.programs }) c.in-Ok.ensures
     (sym c.in_default-unfit_line.is ∙ c.unfit_line.ensures ∙ same) refl c.in-Ok-start_each.ensures
 
