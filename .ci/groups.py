@@ -14,7 +14,7 @@ TOP = pathlib.Path(__file__).resolve().parent.parent
 DRAWING = TOP / "docs/groups.svg"
 # From left to right, where a group stands; its height follows from what it stands on.
 PLACES = {"words": 1.0, "kernel": 0.5, "service": 1.5, "texts": 0.5, "theorem": 1.0, "audit": 1.0, "histories": 1.8, "language": 2.5,
-          "compiler": 2.5, "machine": 3.5, "program": 1.75, "workers": 2.5, "tests": 2.6}
+          "compiler": 2.5, "machine": 3.5, "requests": 3.5, "program": 1.75, "workers": 2.5, "tests": 2.6}
 COLUMN, LEVEL, WIDTH, HEIGHT, MARGIN = 180, 84, 130, 46, 24
 STYLE = 'font-family="sans-serif" text-anchor="middle"'
 

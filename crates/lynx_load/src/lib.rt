@@ -4,7 +4,7 @@
 //! The plan is read once, and then each of its modules once, in the order of the processes. Each code is compiled from just the bytes that
 //! the module's read answered, and each process starts with the code of its module and the ends that the wires give it. The first failure, in
 //! the order plan, modules, params, gives the status and the line that are told, with the name of the file that failed.
-//! By the clause of `load_plan`; `Loads` and `IsLoaded` in `specs/`.
+//! By the clauses `loads` and `ready` of `load_plan`; `Loads` in `specs/Loading.antt`, `IsLoadedAs` and `IsReady` in `specs/Started.antt`.
 #![tactic(auto)]
 
 mod codes;
@@ -16,6 +16,8 @@ mod params;
 mod programs;
 mod reading;
 mod role;
+#[cfg(test)]
+mod testing;
 
 pub use fault::LoadFault;
 pub use loaded::Loaded;

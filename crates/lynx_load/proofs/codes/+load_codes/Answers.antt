@@ -1,4 +1,4 @@
-use Rattle.std.proofs.Common.{◌≡◌, ◌-◌, ◌∷◌, [], length, take, drop, Result, Ok, Err, arith}
+use Rattle.std.proofs.Common.{◌-◌, length, take, drop, arith}
 use Rattle.std.proofs.lemmas.List.{nil_from_length}
 use Rattle.lynx_command.specs.declared.failure.Failure.TheVariants.{NoMemory}
 use Rattle.lynx_load.specs.declared.fault.LoadFault.TheVariants as fault

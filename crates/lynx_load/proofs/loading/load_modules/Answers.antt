@@ -1,4 +1,4 @@
-use Rattle.std.proofs.Common.{◌≡◌, ◌==◌, [], length, false, true, Ok, Err, rules, ◌∙◌}
+use Rattle.std.proofs.Common.{◌≡◌, ◌==◌, length, false, true, Ok, Err, rules, ◌∙◌}
 use Rattle.std.proofs.lemmas.Bool.{eqb-true}
 use Rattle.std.proofs.lemmas.List.{nil_from_length}
 use Rattle.lynx_load.proofs.Planned.{as_many, no_code, not_built, onto_nothing}

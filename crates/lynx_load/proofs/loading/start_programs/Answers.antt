@@ -1,6 +1,5 @@
 use Rattle.std.proofs.Common.{◌≡◌, List, None, ap, length, map, refl, sym, subst, ◌∙◌}
 use Rattle.charlotte_calls.specs.declared.names.EndId.{EndId}
-use Rattle.lynx_load.specs.Ends.{ends_of_each}
 use Rattle.lynx_load.specs.Loading.{unfit_line}
 use Rattle.lynx_load.specs.Started.{AreStarted}
 use Rattle.lynx_load.proofs.Planned.{all_started, same_line, unfit, wants}

@@ -1,5 +1,5 @@
-use Rattle.std.proofs.Common.{map, ap, length, ◌<◌, arith}
-use Rattle.lynx_load.proofs.Starting.{ends_left, first_checked, fit_parts, others_checked}
+use Rattle.std.proofs.Common.{map, ap}
+use Rattle.lynx_load.proofs.Starting.{first_checked, fit_parts, others_checked}
 use Rattle.lynx_load.proofs.programs.start_one.Goals as goal
 
 pub start_role-requires-clause-checked : goal.start_role-requires-clause-checked
