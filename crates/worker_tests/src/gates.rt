@@ -15,7 +15,7 @@ const PASSES: u32 = 8;
 const TRIES: u32 = 10_000_000;
 
 /// Two processes that print and exit, and what they leave.
-const PRINT_AND_EXIT: (&str, &str) = (
+pub(crate) const PRINT_AND_EXIT: (&str, &str) = (
     "version 2
 kernels 2
 process 0 on 0
@@ -41,7 +41,7 @@ quiet
 
 /// At each of its first passes a kernel waits until the other has made as many.
 #[derive(Drop)]
-struct BothPass {
+pub(crate) struct BothPass {
     /// The passes of kernel 0.
     first: AtomicU32,
     /// The passes of kernel 1.
@@ -52,7 +52,7 @@ struct BothPass {
 
 impl BothPass {
     /// None passed yet.
-    fn new() -> BothPass {
+    pub(crate) fn new() -> BothPass {
         BothPass {
             first: AtomicU32::new(0),
             second: AtomicU32::new(0),
@@ -61,7 +61,7 @@ impl BothPass {
     }
 
     /// Whether each made all these passes beside the other.
-    fn is_passed(&self) -> bool {
+    pub(crate) fn is_passed(&self) -> bool {
         !self.alone.load(Ordering::SeqCst)
             && self.first.load(Ordering::SeqCst) == PASSES
             && self.second.load(Ordering::SeqCst) == PASSES

@@ -1,5 +1,5 @@
-//! Tests of runs of nodes, one after the other and with a worker for each, through `start_nodes`, `run_serial`, `run_nodes` and
-//! `run_nodes_with`: lists of calls on one kernel and on several. Each transcript, the merge of the nodes' journals, is read by `audit`.
+//! Tests of runs of nodes, one after the other and with a worker for each, through `start_nodes`, `run_serial`, `run_nodes`,
+//! `run_nodes_with` and `run_programs`: lists of calls on one kernel and on several. Each transcript, the merge of the nodes' journals, is read by `audit`.
 #![tactic(auto)]
 
 #[cfg(test)]
@@ -8,6 +8,8 @@ mod besides;
 mod gates;
 #[cfg(test)]
 mod nodes;
+#[cfg(test)]
+mod programs;
 #[cfg(test)]
 mod random;
 #[cfg(test)]

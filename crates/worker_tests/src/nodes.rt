@@ -94,7 +94,7 @@ pub(crate) fn left(alloc: Global, setting: Setting, nodes: Nodes, last: Last) ->
 }
 
 /// A script in version 2.
-fn read(alloc: Global, script: &str) -> Result<Script, Fail>
+pub(crate) fn read(alloc: Global, script: &str) -> Result<Script, Fail>
     ensures valid { IfOk result (λ script. IsValid script.setting) }
     ensures version { IfOk result (λ script. script.setting.version ≡ 2) }
 {
@@ -113,7 +113,11 @@ fn read(alloc: Global, script: &str) -> Result<Script, Fail>
 }
 
 /// The programs of so many processes.
-fn programs_of(alloc: Global, count: usize, lines: &[ScriptLine]) -> Result<Vec<CallList>, NoMemory>
+pub(crate) fn programs_of(
+    alloc: Global,
+    count: usize,
+    lines: &[ScriptLine],
+) -> Result<Vec<CallList>, NoMemory>
     ensures count { IfOk result (λ programs. length programs.items ≡ count) }
     ensures fresh { IfOk result (λ programs. All (λ p. (p.last ≡ None) × (p.version ≤ 2)) programs.items) }
 {
@@ -203,7 +207,7 @@ pub(crate) fn last_of(end: End) -> Last {
 }
 
 /// Whether this is the transcript of a run that ended so.
-fn is_transcript(alloc: Global, text: &[u8], last: Last) -> bool {
+pub(crate) fn is_transcript(alloc: Global, text: &[u8], last: Last) -> bool {
     text.len() < 1_000_000 && audit(alloc, text) == Ok(last)
 }
 

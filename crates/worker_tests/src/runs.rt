@@ -12,7 +12,7 @@ pub(crate) const AMPLE: Making = Making {
 };
 
 /// A message between two kernels, whose processes both wait for its report; then one exits, and the other is told of it.
-const MESSAGE: (&str, &str) = (
+pub(crate) const MESSAGE: (&str, &str) = (
     "version 2
 kernels 2
 process 0 on 0
