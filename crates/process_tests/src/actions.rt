@@ -87,3 +87,20 @@ ended",
 fn a_new_link_whose_end_is_busy(rt: HostRuntime) -> Result<(), Fail> {
     run_in_both(rt.alloc(), NEW_LINKS)
 }
+
+/// An end on which a reply is owed stays.
+const OWES: Row = (
+    "module m; op ping () : (); op give (link) : (); param a : link; param b : link; begin accept ping on a () do try connect give on b (a) : (); when BUSYLINK do write 'busylink'; end; reply (); end; end.",
+    "receive 0b > ok
+wait > came 0b request 1 ping():()
+print busylink > ok
+send 0b reply 1 0 > ok
+wait > sent 0b
+exit > ok
+ended",
+);
+
+#[test]
+fn an_end_that_owes_a_reply(rt: HostRuntime) -> Result<(), Fail> {
+    run_in_both(rt.alloc(), OWES)
+}
