@@ -12,11 +12,15 @@ use Rattle.lynx_outside.specs.Sink.{taken, failed}
 use Rattle.lynx_outside.specs.declared.status.Status.{Status}
 use Rattle.lynx_outside.specs.declared.status.Status.TheVariants as status
 
--- A line of a failure gets one put: the status is that of the failure, and 3 where the put failed.
-abbrev pub PutsFailure : Failure → List ℕ → Status → List Put → Type 0
-PutsFailure failure text ended errs =
-    ((ended ≡ status_of failure) × (errs ≡ taken text ∷ []))
+-- A line gets one put: the status is this one, and 3 where the put failed.
+abbrev pub PutsText : Status → List ℕ → Status → List Put → Type 0
+PutsText s text ended errs =
+    ((ended ≡ s) × (errs ≡ taken text ∷ []))
     ⊎ ((ended ≡ status.WriteFault) × (errs ≡ failed text ∷ []))
+
+-- that is the status of the failure
+abbrev pub PutsFailure : Failure → List ℕ → Status → List Put → Type 0
+PutsFailure failure text ended errs = PutsText (status_of failure) text ended errs
 
 -- A failure is told by its line. Where there is no memory for the line, want of memory is told.
 abbrev pub Tells : List ℕ → Failure → Status → List Put → Type 0

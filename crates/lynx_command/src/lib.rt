@@ -30,5 +30,5 @@ pub use law::lines_are_the_text;
 pub use lines::Lines;
 pub use putting::{PutFault, put_text};
 pub use reading::{MOST_BYTES, MOST_TRANSCRIPT_BYTES, read_file};
-pub use telling::tell;
+pub use telling::{tell, tell_text};
 pub use text::Text;

@@ -1,6 +1,6 @@
 //! A failure is told on err.
 ghost use Rattle.std.specs.Prelude.{List};
-ghost use Rattle.lynx_command.specs.Ending.{Tells, PutsFailure};
+ghost use Rattle.lynx_command.specs.Ending.{Tells, PutsFailure, PutsText};
 ghost use Rattle.lynx_outside.specs.Logged.{Put};
 ghost use Rattle.lynx_outside.specs.Sink.{WerePut};
 
@@ -23,8 +23,15 @@ pub fn tell<E: Sink>(alloc: Global, name: &str, failure: Failure, err: &mut E) -
 fn put_line<E: Sink>(failure: Failure, text: &[u8], err: &mut E) -> Status
     ensures { (errs : List Put) × PutsFailure failure text.now result errs × WerePut (E.state err.old) (E.state err.new) errs }
 {
+    tell_text(failure.status(), text, err)
+}
+
+/// Puts the line of a failure on err, with one put, and gives its status, or 3 where the put fails.
+pub fn tell_text<E: Sink>(status: Status, text: &[u8], err: &mut E) -> Status
+    ensures { (errs : List Put) × PutsText status text.now result errs × WerePut (E.state err.old) (E.state err.new) errs }
+{
     match err.put(text) {
-        Ok(()) => failure.status(),
+        Ok(()) => status,
         Err(_) => Status::WriteFault,
     }
 }

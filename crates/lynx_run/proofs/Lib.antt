@@ -2,3 +2,5 @@ mod Complete
 mod Driven
 mod Once
 pub mod Lawful
+mod Running
+mod Turns

@@ -1,5 +1,5 @@
 -- What the program does with its words.
-use Rattle.std.specs.Prelude.{◌≡◌, ℕ, List, [], Option, Some, None, Err, codes, string_bytes}
+use Rattle.std.specs.Prelude.{◌≡◌, ◌≤◌, ℕ, List, [], Option, Some, None, Err, codes, string_bytes}
 use Rattle.lynx_command.specs.Course.{Course, IsOfFile, IsRefusedAs}
 use Rattle.lynx_command.specs.Found.{Found}
 use Rattle.lynx_command.specs.Limits.{most_bytes, most_transcript_bytes}
@@ -9,6 +9,7 @@ use Rattle.lynx_run.specs.Audit.{Audits}
 use Rattle.lynx_run.specs.Check.{Checks}
 use Rattle.lynx_run.specs.Code.{Codes}
 use Rattle.lynx_run.specs.Drive.{Drives}
+use Rattle.lynx_run.specs.Run.{RunsPlan}
 use Rattle.command_words.specs.declared.words.Command.{Command}
 use Rattle.command_words.specs.declared.words.Command.TheVariants.{Drive, Check, Code, Run, Bench, Audit, Snapshot}
 
@@ -43,7 +44,13 @@ abbrev pub Performs : Command → Option (List ℕ × ℕ) → Course → Type 0
 Performs command (Some file) course = IsOfFile (Finds command) file.1 file.0 course
 Performs command None course = IsRefusedAs Unbuilt (command_name command) course
 
--- What words ask for: a command is performed, and words that are not of the form are told so.
+-- What words ask for: a command is performed, and words that are not of the form are told so. A plan is run whichever way was asked for
 abbrev pub Answers : Option Command → Course → Type 0
 Answers None course = IsRefusedAs Usage [] course
+Answers (Some (Run plan serial turns)) course = RunsPlan (string_bytes plan) turns course
 Answers (Some command) course = Performs command (file_of command) course
+
+-- a kernel has at most so many turns
+abbrev pub IsWithinTurns : Command → Type 0
+IsWithinTurns (Run plan serial turns) = turns ≤ 100000
+IsWithinTurns command = Unit {0}

@@ -4,3 +4,4 @@ pub mod Code
 pub mod Commands
 pub mod Complete
 pub mod Drive
+pub mod Run

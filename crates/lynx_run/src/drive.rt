@@ -27,6 +27,15 @@ impl Model for Transcript {
     ghost view = { λ t. t.lines };
 }
 
+impl Transcript {
+    /// The lines of a transcript.
+    pub(crate) fn of(lines: TranscriptLines) -> Transcript
+        ensures { result ≡ lines }
+    {
+        Transcript { lines }
+    }
+}
+
 impl Text for Transcript {
     ghost lines_left = { λ t. t };
 
@@ -77,7 +86,7 @@ fn perform_script(alloc: Global, bytes: Vec<u8>, script: Script) -> Result<Trans
     } = perform(alloc, &setting, lines)?;
     drop(bytes);
     let lines = TranscriptLines::of(setting, merged, notes, last);
-    Ok(Transcript { lines })
+    Ok(Transcript::of(lines))
 }
 
 /// Performs the script of a file, and puts its transcript on out, one put a line. What the entries of the transcript show is one

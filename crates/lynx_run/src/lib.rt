@@ -20,6 +20,7 @@ mod check;
 mod code;
 mod drive;
 mod law;
+mod run;
 mod top;
 
 pub use audit::{AuditCommand, audit_file};
@@ -27,4 +28,5 @@ pub use check::{CheckCommand, check_file};
 pub use code::{CodeCommand, code_file};
 pub use drive::{DriveCommand, drive_file};
 pub use law::{driven_is_audited, driven_is_one_text, each_command_is_complete};
+pub use run::{Driver, run_file};
 pub use top::{fail, lynx};

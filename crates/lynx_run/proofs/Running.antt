@@ -1,0 +1,46 @@
+-- A plan is loaded and run, or why it is not loaded is told.
+use Rattle.std.proofs.Common.{◌≡◌, ◌≤◌, ℕ, List, [], All, Result, Ok, Err, None, refl, subst, arith}
+use Rattle.charlotte_calls.specs.declared.setting.Setting.{Setting}
+use Rattle.kernel_worker.specs.declared.standing.End.{End as RunEnd}
+use Rattle.lynx_command.specs.Course.{Course, Outside, Took, outside}
+use Rattle.lynx_command.specs.Ending.{Ends, Tells}
+use Rattle.lynx_command.specs.Found.{Found, OutputLines}
+use Rattle.lynx_command.proofs.Puts.{no_puts}
+use Rattle.lynx_load.specs.Loading.{Loading, Loads, Unloaded}
+use Rattle.lynx_load.specs.Roles.{last_of, version_of}
+use Rattle.lynx_load.specs.Started.{IsLoaded, IsLoadedAs}
+use Rattle.lynx_load.specs.Told.{IsToldAs}
+use Rattle.lynx_load.specs.declared.fault.LoadFault.{LoadFault}
+use Rattle.lynx_load.specs.declared.loaded.Loaded.{Loaded}
+use Rattle.lynx_load.specs.declared.role.Role.{Role}
+use Rattle.lynx_outside.specs.Files.{Source, WereRead}
+use Rattle.lynx_outside.specs.Logged.{Put, Read}
+use Rattle.lynx_outside.specs.Sink.{Stream, WerePut}
+use Rattle.lynx_outside.specs.declared.status.Status.{Status}
+use Rattle.lynx_run.specs.Run.{FindsRun, RunsLoaded, RunsPlan}
+
+module _ (name : List ℕ) (turns : ℕ) (before after : Source) (out out_later err err_later : Stream) (ended : Status) where
+  abbrev Courses : Type 0
+  Courses = (course : Course) × RunsPlan name turns course × Took course ended (outside before out err) (outside after out_later err_later)
+
+  -- what was loaded was run, and its text put
+  pub ran_so : (loaded : Loaded) (x : Result Loading Unloaded) (reads : List Read) (found : Found) (outs errs : List Put) → WereRead before after reads → Loads name reads x → IsLoadedAs (Ok loaded) x
+      → ((l : Loading) → IsLoaded l loaded → FindsRun l turns found) → Ends [] found ended outs errs → WerePut out out_later outs → WerePut err err_later errs → Courses
+  ran_so loaded (Ok l) reads found outs errs were loads is runs ends on_out on_err = (
+    record { reads = reads; found = found; name = []; outs = outs; errs = errs },
+    (Ok l, loads, runs l is),
+    record { reads = were; outs = on_out; errs = on_err; ends = ends },
+  )
+  ran_so loaded (Err f) reads found outs errs were loads is runs ends on_out on_err = absurd is
+
+-- why it was not loaded is told
+pub told_so : (name : List ℕ) (turns : ℕ) (before after : Source) (out err err_later : Stream) (ended : Status) (fault : LoadFault) (x : Result Loading Unloaded) (reads : List Read) → WereRead before after reads → Loads name reads x
+    → IsLoadedAs (Err fault) x → ((f : Unloaded) → IsToldAs fault f → (errs : List Put) × Tells f.file f.failure ended errs × WerePut err err_later errs)
+    → (course : Course) × RunsPlan name turns course × Took course ended (outside before out err) (outside after out err_later)
+told_so name turns before after out err err_later ended fault (Ok l) reads were loads is tells = absurd is
+told_so name turns before after out err err_later ended fault (Err f) reads were loads is tells =
+    let told = tells f is in (
+      record { reads = reads; found = Err f.failure; name = f.file; outs = []; errs = told.0 },
+      (Err f, loads, refl, refl),
+      record { reads = were; outs = no_puts out; errs = told.2; ends = (refl, told.1) },
+    )
