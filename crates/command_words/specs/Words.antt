@@ -1,5 +1,5 @@
 -- The words of a command line, and the command that they give.
-use Rattle.std.specs.Prelude.{ℕ, ◌^◌, List, [], ◌∷◌, Bool, true, false, not, ◌&&◌, ◌==◌, if◌then◌else◌, codes, take, drop}
+use Rattle.std.specs.Prelude.{ℕ, ◌≤◌, ◌^◌, List, [], ◌∷◌, Bool, true, false, not, ◌&&◌, ◌==◌, if◌then◌else◌, codes, take, drop}
 use Rattle.std.specs.Prelude.{Option, Some, None, is_none, unwrap_or, option_map, option_and_then, String, string_bytes}
 use Rattle.std.specs.Result.{result_ok}
 use Rattle.std.specs.Str.{bytes_eq}
@@ -147,3 +147,8 @@ behind verb.Snapshot ws = snapshot_of ws
 unfoldable pub command_of : List Word → Option Command
 command_of [] = None
 command_of (w ∷ ws) = option_and_then (λ v. behind v ws) (verb_of (string_bytes w))
+
+-- a kernel has at most so many turns
+abbrev pub IsWithinTurns : Command → Type 0
+IsWithinTurns (command.Run plan serial turns) = turns ≤ 100000
+IsWithinTurns other = Unit {0}

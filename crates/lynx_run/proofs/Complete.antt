@@ -182,11 +182,20 @@ answered command name most course ended old new file took none (Err answer.NoMem
     let told : Ends course.name (Err failure.NoMemory) ended course.outs course.errs = subst (λ found. Ends course.name found ended course.outs course.errs) finds took.ends in
     inr (told-memory course.name old.err new.err ended course.errs none.err took.errs told.1)
 
--- the one read of a command that is built
-reads-file : (command : Command) (name : List ℕ) (most : ℕ) (course : Course) → file_of command ≡ Some (name, most) → Answers (Some command) course → FindsAt (Finds command) most name course.reads course.found
-reads-file command name most course file answers =
+-- the one read of a command that reads one file
+performed : (command : Command) (name : List ℕ) (most : ℕ) (course : Course) → file_of command ≡ Some (name, most) → Performs command (file_of command) course → FindsAt (Finds command) most name course.reads course.found
+performed command name most course file answers =
     let performs : IsOfFile (Finds command) most name course = subst (λ (of : Option (List ℕ × ℕ)). Performs command of course) file answers in
     performs.finds
+
+reads-file : (command : Command) (name : List ℕ) (most : ℕ) (course : Course) → file_of command ≡ Some (name, most) → Answers (Some command) course → FindsAt (Finds command) most name course.reads course.found
+reads-file (Drive f) name most course file answers = performed (Drive f) name most course file answers
+reads-file (Check f) name most course file answers = performed (Check f) name most course file answers
+reads-file (Code f) name most course file answers = performed (Code f) name most course file answers
+reads-file (Audit f) name most course file answers = performed (Audit f) name most course file answers
+reads-file (Run plan serial turns) name most course file answers = absurd cc
+reads-file (Bench seed) name most course file answers = absurd cc
+reads-file (Snapshot plan at serial) name most course file answers = absurd cc
 
 pub complete : (command : Command) (name : List ℕ) (most : ℕ) (course : Course) (ended : Status) (old new : Outside) → file_of command ≡ Some (name, most) → Answers (Some command) course
     → Took course ended old new → HasNoFault old new → AreObeyed command course.reads → IsComplete command course ended

@@ -1,6 +1,6 @@
 mod Complete
+mod Crossing
 mod Driven
 mod Once
 pub mod Lawful
 mod Running
-mod Turns

@@ -1,5 +1,5 @@
 -- What the program does with its words.
-use Rattle.std.specs.Prelude.{◌≡◌, ◌≤◌, ℕ, List, [], Option, Some, None, Err, codes, string_bytes}
+use Rattle.std.specs.Prelude.{◌≡◌, ℕ, List, [], Option, Some, None, Err, codes, string_bytes}
 use Rattle.lynx_command.specs.Course.{Course, IsOfFile, IsRefusedAs}
 use Rattle.lynx_command.specs.Found.{Found}
 use Rattle.lynx_command.specs.Limits.{most_bytes, most_transcript_bytes}
@@ -49,8 +49,3 @@ abbrev pub Answers : Option Command → Course → Type 0
 Answers None course = IsRefusedAs Usage [] course
 Answers (Some (Run plan serial turns)) course = RunsPlan (string_bytes plan) turns course
 Answers (Some command) course = Performs command (file_of command) course
-
--- a kernel has at most so many turns
-abbrev pub IsWithinTurns : Command → Type 0
-IsWithinTurns (Run plan serial turns) = turns ≤ 100000
-IsWithinTurns command = Unit {0}

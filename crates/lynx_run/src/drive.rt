@@ -1,5 +1,5 @@
 //! The command that performs a script.
-ghost use Rattle.std.specs.Prelude.{◌≤◌, ◌+◌, ◌*◌, ℕ, List, IfOk, length};
+ghost use Rattle.std.specs.Prelude.{◌≡◌, ◌≤◌, ◌+◌, ◌*◌, ℕ, List, IfOk, length};
 ghost use Rattle.lynx_command.specs.Limits.{most_bytes};
 ghost use Rattle.lynx_command.specs.Course.{Course, outside, Took, IsOfFile};
 ghost use Rattle.lynx_command.specs.Text.{IsNextLine};

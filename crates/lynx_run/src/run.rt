@@ -20,6 +20,7 @@ use std::alloc::Global;
 use std::thread::Threads;
 
 /// With what a plan is run, and how.
+#[derive(Drop)]
 pub struct Driver<'a, R, G> {
     pub threads: &'a R,
     /// What each worker passes before a turn that is an event.
@@ -40,7 +41,7 @@ pub fn run_file<R: Threads + Sync, F: Files, O: Sink, E: Sink, G: Gate + Sync>(
     err: &mut E,
 ) -> Status
     requires { driver.how.turns ≤ 100000 }
-    ensures { (course : Course) × RunsPlan name.now driver.how.turns course
+    ensures { (course : Course) × RunsPlan name.now driver.entry.how.turns course
         × Took course result (outside (F.state files.old) (O.state out.old) (E.state err.old))
         (outside (F.state files.new) (O.state out.new) (E.state err.new)) }
 {
@@ -72,7 +73,7 @@ fn run_loaded<R: Threads + Sync, G: Gate + Sync>(
 ) -> Result<Output<Transcript>, Failure>
     requires turns { driver.how.turns ≤ 100000 }
     requires ready { IsReady loaded }
-    ensures { (x : Loading) → IsLoaded x loaded → FindsRun x driver.how.turns (found_of Transcript.lines_left result) }
+    ensures { (x : Loading) → IsLoaded x loaded → FindsRun x driver.entry.how.turns (found_of (λ t. t) result) }
 {
     let Loaded { setting, programs } = loaded;
     let Ran { lines, end } = run_programs(

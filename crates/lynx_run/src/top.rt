@@ -4,8 +4,8 @@ ghost use Rattle.lynx_command.specs.Course.{Course, outside, Took};
 ghost use Rattle.lynx_command.specs.Ending.{Tells};
 ghost use Rattle.lynx_outside.specs.Logged.{Put};
 ghost use Rattle.lynx_outside.specs.Sink.{WerePut};
-ghost use Rattle.lynx_run.specs.Commands.{command_name, Answers, IsWithinTurns};
-ghost use Rattle.command_words.specs.Words.{command_of};
+ghost use Rattle.lynx_run.specs.Commands.{command_name, Answers};
+ghost use Rattle.command_words.specs.Words.{IsWithinTurns, command_of};
 
 use crate::audit::audit_file;
 use crate::check::check_file;
@@ -52,6 +52,7 @@ pub fn fail<E: Sink>(alloc: Global, failure: Failure, err: &mut E) -> Status
 }
 
 // What a run with workers takes.
+#[derive(Drop)]
 struct Handles<'a, R, G> {
     threads: &'a R,
     gate: &'a G,
