@@ -1,5 +1,5 @@
 -- A script has one performance, and so `drive` puts one text of it.
-use Rattle.std.proofs.Common.{◌≡◌, ◌≢◌, ℕ, List, [], ◌∷◌, ◌++◌, Result, Ok, refl, sym, ap, subst, ◌∙◌}
+use Rattle.std.proofs.Common.{◌≡◌, ℕ, List, [], ◌∷◌, ◌++◌, Result, Ok, refl, sym, ap, subst, ◌∙◌}
 use Rattle.charlotte_calls.specs.declared.calls.Call.{Call}
 use Rattle.charlotte_calls.specs.declared.names.Pid.{Pid}
 use Rattle.charlotte_calls.specs.declared.setting.Setting.{Setting}
@@ -12,7 +12,7 @@ use Rattle.kernel_step.specs.Kernel.{Outcome, process_of}
 use Rattle.kernel_step.specs.Start.{home}
 use Rattle.kernel_step.specs.declared.phase.Phase.{Phase}
 use Rattle.kernel_step.specs.declared.phase.Phase.TheVariants.{Running, Waiting, Cancelling, Exited}
-use Rattle.kernel_world.specs.World.{World, Event, Calls, Takes, after, noted, start}
+use Rattle.kernel_world.specs.World.{World, Event, after, noted, start}
 use Rattle.lynx_plan.specs.Reading.{script_of}
 use Rattle.lynx_plan.specs.declared.fault.PlanFault.{PlanFault}
 use Rattle.lynx_plan.specs.declared.script.Script.{Script}
@@ -20,7 +20,7 @@ use Rattle.lynx_plan.specs.declared.script.ScriptCall.{ScriptCall}
 use Rattle.lynx_plan.specs.declared.script.ScriptCall.TheVariants.{Ask, Take, Settle}
 use Rattle.lynx_plan.specs.declared.script.ScriptLine.{ScriptLine}
 use Rattle.lynx_run.specs.Drive.{IsDriven}
-use Rattle.script_run.specs.Performing.{Asks, Does, IsCall, IsLast, IsNoted, IsPerformance, Performs, TakesFirst, settled}
+use Rattle.script_run.specs.Performing.{Asks, Does, IsCall, IsLast, IsNoted, IsPerformance, Performs, TakesFirst}
 use Rattle.transcript_lines.specs.Transcript.{transcript_lines}
 use Rattle.transcript_lines.specs.declared.last.Last.{Last}
 use Rattle.transcript_lines.specs.declared.last.Last.TheVariants.{Quiet, Unsettled, Spent}

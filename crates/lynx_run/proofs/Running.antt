@@ -1,43 +1,19 @@
 -- A plan is loaded and run, or why it is not loaded is told.
-use Rattle.std.proofs.Common.{◌≡◌, ◌≤◌, ℕ, List, [], All, Result, Ok, Err, None, refl, subst, arith}
-use Rattle.std.proofs.lemmas.List.Elements.{All-weaker}
-use Rattle.charlotte_calls.specs.declared.setting.Setting.{Setting}
-use Rattle.kernel_worker.specs.declared.standing.End.{End as RunEnd}
-use Rattle.lynx_command.specs.Course.{Course, Outside, Took, outside}
+use Rattle.std.proofs.Common.{ℕ, List, [], Result, Ok, Err, refl}
+use Rattle.lynx_command.specs.Course.{Course, Took, outside}
 use Rattle.lynx_command.specs.Ending.{Ends, Tells}
-use Rattle.lynx_command.specs.Found.{Found, OutputLines}
+use Rattle.lynx_command.specs.Found.{Found}
 use Rattle.lynx_command.proofs.Puts.{no_puts}
 use Rattle.lynx_load.specs.Loading.{Loading, Loads, Unloaded}
-use Rattle.lynx_load.specs.Roles.{last_of, version_of}
-use Rattle.lynx_load.specs.Started.{IsLoaded, IsLoadedAs, IsReady}
+use Rattle.lynx_load.specs.Started.{IsLoaded, IsLoadedAs}
 use Rattle.lynx_load.specs.Told.{IsToldAs}
 use Rattle.lynx_load.specs.declared.fault.LoadFault.{LoadFault}
 use Rattle.lynx_load.specs.declared.loaded.Loaded.{Loaded}
-use Rattle.lynx_load.specs.declared.role.Role.{Role}
 use Rattle.lynx_outside.specs.Files.{Source, WereRead}
 use Rattle.lynx_outside.specs.Logged.{Put, Read}
 use Rattle.lynx_outside.specs.Sink.{Stream, WerePut}
 use Rattle.lynx_outside.specs.declared.status.Status.{Status}
-use Rattle.lynx_run.specs.Run.{FindsRun, RunsPlan, end_of, roles}
-use Rattle.plan_run.specs.Run.{IsRunOf}
-use Rattle.plan_run.specs.declared.run.Ran.{Ran}
-
--- the programs made no step, and have at most the version of the setting
-pub are_fresh : (loaded : Loaded) → IsReady loaded → All (λ role. (last_of role ≡ None) × (version_of role ≤ loaded.setting.version)) loaded.programs.items
-are_fresh loaded ready =
-    All-weaker (λ role. (last_of role ≡ None) × (version_of role ≡ loaded.setting.version)) (λ role. (last_of role ≡ None) × (version_of role ≤ loaded.setting.version)) (λ role is. let same : version_of role ≡ loaded.setting.version = is.1 in (is.0, omega arith)) loaded.programs.items
-    ready.fresh
-
--- the programs of what was loaded were run
-pub run_so : (x : Loading) (loaded : Loaded) (turns : ℕ) (ran : Ran) → IsLoaded x loaded → IsRunOf roles loaded.setting loaded.programs.items turns ran → FindsRun x turns (Ok (record { lines = ran.lines; end = end_of ran.end }))
-run_so x loaded turns ran is run = record {
-  programs = loaded.programs.items;
-  started = is.programs;
-  ran = ran;
-  run = subst (λ (s : Setting). IsRunOf roles s loaded.programs.items turns ran) is.setting run;
-  lines = refl;
-  end = refl;
-}
+use Rattle.lynx_run.specs.Run.{FindsRun, RunsPlan}
 
 module _ (name : List ℕ) (turns : ℕ) (before after : Source) (out out_later err err_later : Stream) (ended : Status) where
   abbrev Courses : Type 0

@@ -1,9 +1,8 @@
 -- What the program does with its words.
-use Rattle.std.specs.Prelude.{◌≡◌, ℕ, List, [], Option, Some, None, Err, codes, string_bytes}
+use Rattle.std.specs.Prelude.{ℕ, List, [], Option, Some, None, codes, string_bytes}
 use Rattle.lynx_command.specs.Course.{Course, IsOfFile, IsRefusedAs}
 use Rattle.lynx_command.specs.Found.{Found}
 use Rattle.lynx_command.specs.Limits.{most_bytes, most_transcript_bytes}
-use Rattle.lynx_command.specs.declared.failure.Failure.{Failure}
 use Rattle.lynx_command.specs.declared.failure.Failure.TheVariants.{Usage, Unbuilt}
 use Rattle.lynx_run.specs.Audit.{Audits}
 use Rattle.lynx_run.specs.Check.{Checks}

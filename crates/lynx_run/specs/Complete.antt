@@ -1,12 +1,12 @@
 -- When a command does the whole of what its words ask for.
-use Rattle.std.specs.Prelude.{◌≡◌, ◌⊎◌, ◌<◌, ◌≤◌, ⊤, ℕ, List, [], ◌∷◌, length, map, Option, Some, Result, Ok, Err, string_bytes}
+use Rattle.std.specs.Prelude.{◌≡◌, ◌⊎◌, ◌<◌, ◌≤◌, ⊤, ℕ, List, [], ◌∷◌, length, map, Some, Result, Ok, Err}
 use Rattle.command_words.specs.declared.words.Command.{Command}
 use Rattle.command_words.specs.declared.words.Command.TheVariants.{Drive, Check, Code, Audit}
 use Rattle.compiler_source.specs.Compiled.{IsCompiledAs}
 use Rattle.lynx_command.specs.Course.{Course, Outside}
 use Rattle.lynx_command.specs.Found.{OutputLines, read}
 use Rattle.lynx_outside.specs.Faults.{last_count}
-use Rattle.lynx_outside.specs.Files.{Listing, Source, bytes_of}
+use Rattle.lynx_outside.specs.Files.{Listing, bytes_of}
 use Rattle.lynx_outside.specs.Logged.{Read}
 use Rattle.lynx_outside.specs.Sink.{taken}
 use Rattle.lynx_outside.specs.declared.files.FileAnswer.{FileAnswer}
