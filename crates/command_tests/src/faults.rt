@@ -2,16 +2,24 @@
 
 use crate::sinks::{held, holds};
 use charlotte_calls::NoMemory;
+use kernel_worker::NoGate;
 use lynx_outside::{ListFiles, ListSink, Status};
 use lynx_run::lynx;
 use std::alloc::{AllocError, Global};
 use std::test::Fail;
+use std::thread::Threads;
 
 const SCRIPT: &[u8] = b"kernels 1\nprocess 0 on 0\np0 print 1\n";
 
 const TRANSCRIPT: &str = "transcript 1\nkernels 1\nprocess 0 on 0\n1 k0 p0 print 1\nquiet\n";
 
 const LISTING: &str = "code m\npart main\n0 end\n";
+
+const PLAN: &[u8] = b"kernels 1\nprocess 0 on 0 runs m\n";
+
+const QUIET: &str = "transcript 1\nkernels 1\nprocess 0 on 0\n1 k0 p0 exit\n. exit p0\nquiet\n";
+
+const SPENT: &str = "transcript 1\nkernels 1\nprocess 0 on 0\n1 k0 p0 exit\n. exit p0\nspent 0\n";
 
 /// Room for every text of these tests.
 const AMPLE: u32 = 100;
@@ -28,11 +36,15 @@ fn file(alloc: Global, name: &str, bytes: &[u8]) -> Result<(String, Vec<u8>), Al
     Ok((String::from_str(alloc, name)?, bytes.to_vec(alloc)?))
 }
 
-/// The files `s`, a script, and `m`, a module. The read of this number fails.
+/// The files `s`, a script, `m`, a module, and `p`, a plan that runs it. The read of this number fails.
 fn files_of(alloc: Global, failing: u32) -> Result<ListFiles, AllocError> {
     let script = file(alloc, "s", SCRIPT)?;
     let module = file(alloc, "m", b"module m; begin end.\n")?;
-    Ok(ListFiles::of(vec![in alloc; script, module]?, vec![in alloc; failing]?))
+    let plan = file(alloc, "p", PLAN)?;
+    Ok(ListFiles::of(
+        vec![in alloc; script, module, plan]?,
+        vec![in alloc; failing]?,
+    ))
 }
 
 /// With room for so many bytes. The put of this number fails.
@@ -55,12 +67,56 @@ const ROWS: &[Row] = &[
     ("help", (0, 0, 0), 4, Status::Usage, "", "lynx: usage\n"),
     ("help", (0, 0, 1), 4, Status::WriteFault, "", ""),
     (
-        "run p",
+        "bench 1",
         (0, 0, 0),
         4,
         Status::Refused,
         "",
-        "lynx: run: not built\n",
+        "lynx: bench: not built\n",
+    ),
+    // the plan is read, and then its module
+    (
+        "run p",
+        (1, 0, 0),
+        4,
+        Status::ReadFault,
+        "",
+        "lynx: p: read fault\n",
+    ),
+    (
+        "run p",
+        (2, 0, 0),
+        4,
+        Status::ReadFault,
+        "",
+        "lynx: m: read fault\n",
+    ),
+    (
+        "run q",
+        (0, 0, 0),
+        4,
+        Status::NoFile,
+        "",
+        "lynx: q: absent\n",
+    ),
+    ("run s", (0, 0, 0), 4, Status::Refused, "", "s:2: plan 1\n"),
+    ("run p", (3, 0, 1), AMPLE, Status::Done, QUIET, ""),
+    ("run p --serial", (3, 0, 1), AMPLE, Status::Done, QUIET, ""),
+    (
+        "run p --turns 1",
+        (3, 0, 1),
+        AMPLE,
+        Status::Spent,
+        SPENT,
+        "",
+    ),
+    (
+        "run p",
+        (3, 2, 1),
+        AMPLE,
+        Status::WriteFault,
+        "transcript 1\n",
+        "",
     ),
     (
         "drive s",
@@ -178,17 +234,19 @@ const ROWS: &[Row] = &[
     ("code m", (0, 4, 1), AMPLE, Status::Done, LISTING, ""),
 ];
 
-fn ends_so(alloc: Global, row: &Row) -> Result<(), Fail> {
+fn ends_so<R: Threads + Sync>(rt: &R, alloc: Global, row: &Row) -> Result<(), Fail> {
     let (line, (read, put, told), room, status, out_text, err_text) = *row;
     let mut files = files_of(alloc, read)?;
     let mut out = sink_of(alloc, room, put)?;
     let mut err = sink_of(alloc, AMPLE, told)?;
     let ended = lynx(
+        rt,
         alloc,
         words_of(alloc, line)?,
         &mut files,
         &mut out,
         &mut err,
+        &NoGate,
     );
     holds(ended == status, line)?;
     held(&out, out_text)?;
@@ -198,7 +256,7 @@ fn ends_so(alloc: Global, row: &Row) -> Result<(), Fail> {
 #[test]
 fn reads_and_puts_fail_in_turn(rt: HostRuntime) -> Result<(), Fail> {
     for row in ROWS {
-        ends_so(rt.alloc(), row)?;
+        ends_so(&rt, rt.alloc(), row)?;
     }
     Ok(())
 }
