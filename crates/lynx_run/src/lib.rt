@@ -8,10 +8,11 @@
 //! instructions. Of `audit`: with status 0 it got the line `yes`, and the bytes are the transcript of a run; what `drive` puts is such a
 //! text. Else the first failure, in the order file, text, work, gives the status and the one line on standard error, with the first line
 //! and least rule of a script that is refused, the place of a module's first fault, for `code` also that its code is too long, or the line
-//! at which a transcript is not that of a run. The bytes are those that the command's one read answered, of real files too. Every other
-//! command fails by its name, and reads nothing.
-//! By clauses of `lynx`, `drive_file`, `check_file`, `code_file` and `audit_file`; `Answers`, `Drives`, `Checks`, `Codes`, `Audits` in
-//! `specs/`; `lawful` of `IsDriven`; the laws
+//! at which a transcript is not that of a run. The bytes are those that the command's one read answered, of real files too. Of `run`: the plan is
+//! read, and then each module once; with status 0 or 5 standard output got the lines of the transcript of a run of their programs, which is one
+//! lawful run of the link service. Every other command fails by its name, and reads nothing.
+//! By clauses of `lynx`, `drive_file`, `check_file`, `code_file`, `audit_file` and `run_file`; `Answers`, `Drives`, `Checks`, `Codes`,
+//! `Audits`, `RunsPlan` in `specs/`; `lawful` of `IsDriven`; the laws
 //! `driven_is_audited`, `driven_is_one_text` and `each_command_is_complete`.
 #![tactic(auto)]
 
