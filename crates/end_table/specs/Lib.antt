@@ -7,3 +7,4 @@ pub mod Lent
 pub mod CodedEnd
 pub mod Message
 pub mod Kept
+pub mod Held

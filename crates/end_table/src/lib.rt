@@ -15,6 +15,7 @@
 
 mod brief;
 mod entry;
+mod held;
 mod kept;
 mod living;
 mod message;

@@ -3,6 +3,7 @@ ghost use Rattle.end_table.specs.Entries.{settled, learned, is_news};
 ghost use Rattle.end_table.specs.Message.{outward_of};
 ghost use Rattle.end_table.specs.Owned.{is_owner};
 
+use crate::held::Held;
 use crate::{Holder, Inward, Sending};
 use charlotte_calls::Pid;
 use charlotte_packets::{Moving, MovingPicture};
@@ -12,9 +13,8 @@ use std::mem;
 /// An end that is here, with its value, as a table lends it. Contracts see it as plain data.
 pub struct Living {
     moving: Moving,
-    holder: Holder,
     outward: Sending,
-    inward: Inward,
+    held: Held,
 }
 
 impl Model for Living {
@@ -23,7 +23,7 @@ impl Model for Living {
 
     ghost Value = { HereView };
 
-    ghost view = { λ l. record { value = l.moving; holder = l.holder; outward = outward_of l.outward; inward = l.inward } };
+    ghost view = { λ l. record { value = l.moving; holder = l.held.holder; outward = outward_of l.outward; inward = l.held.inward } };
 }
 
 impl Living {
@@ -34,9 +34,8 @@ impl Living {
     {
         Living {
             moving,
-            holder,
             outward: Sending::Idle,
-            inward: Inward::Idle,
+            held: Held::idle(holder),
         }
     }
 
@@ -51,7 +50,7 @@ impl Living {
     pub fn holder(&self) -> Holder
         ensures { result ≡ self.now.holder }
     {
-        self.holder
+        self.held.holder()
     }
 
     /// The send.
@@ -65,13 +64,13 @@ impl Living {
     pub fn inward(&self) -> Inward
         ensures { result ≡ self.now.inward }
     {
-        self.inward
+        self.held.inward()
     }
 
     pub(crate) fn is_owned_by(&self, p: Pid) -> bool
         ensures { result ≡ is_owner p self.now.holder }
     {
-        match self.holder {
+        match self.held.holder() {
             Holder::Owner(owner) => p.0 == owner.0,
             Holder::EnclosedIn(_) => false,
         }
@@ -84,7 +83,7 @@ impl Living {
         ensures { self.new ≡ record self.old { value = value; inward = inward } }
     {
         set_fields(&mut self.moving, value);
-        self.inward = inward;
+        self.held.set_inward(inward);
     }
 
     /// Sets value and send, and answers what the send was.
@@ -103,7 +102,7 @@ impl Living {
     pub(crate) fn set_holder(&mut self, holder: Holder)
         ensures { self.new ≡ record self.old { holder = holder } }
     {
-        self.holder = holder;
+        self.held.set_holder(holder);
     }
 
     pub(crate) fn learn(&mut self, kernel: u8, hops: u32) -> bool
@@ -124,9 +123,8 @@ impl Living {
     {
         let Living {
             moving,
-            holder: _,
             outward: _,
-            inward: _,
+            held: _,
         } = self;
         moving
     }
