@@ -102,16 +102,19 @@ impl<M: Drop> Kept<M> {
         ensures absent { lookup (end_eq end) self.old.kept ≡ None → self.old.most ≤ self.new.most }
         ensures room { self.old.most ≤ self.new.most + 1 }
     {
-        if self.kept.contains_key(&end) {
+        if self.has(end) {
             drop(self.kept.swap_remove(&end));
         }
     }
 
-    /// Whether something is kept of an end.
+    /// Whether something is kept of an end. Where nothing is kept at all, as mostly, the index is not read.
     #[inline(always)]
     pub(crate) fn has(&self, end: EndId) -> bool
         ensures { result ≡ is_some (lookup (end_eq end) self.now.kept) }
     {
+        if self.kept.is_empty() {
+            return false;
+        }
         self.kept.contains_key(&end)
     }
 
@@ -120,6 +123,9 @@ impl<M: Drop> Kept<M> {
     pub(crate) fn get(&self, end: EndId) -> Option<&M>
         ensures { option_copied result ≡ lookup (end_eq end) self.now.kept }
     {
+        if self.kept.is_empty() {
+            return None;
+        }
         self.kept.get(&end)
     }
 }

@@ -8,14 +8,10 @@ use crate::Outward;
 use crate::brief::Brief;
 use crate::kept::Kept;
 use crate::message::Message;
+use crate::places::FEW;
 use charlotte_calls::{EndId, NoMemory};
 use std::alloc::Global;
 use std::marker::Model;
-
-/// A block of so many long messages is large, and one of so many brief ones: more than 128 KiB, of which is touched only what is used.
-const FEW_LONG: usize = 1024;
-
-const FEW_BRIEF: usize = 4096;
 
 /// The messages of sends that wait, each with the end that sends it: brief ones apart, since a place for one has the room of the
 /// longest. Where both have a message of an end, the long one is the newer. Where a send does not wait any more, its message
@@ -52,8 +48,8 @@ impl Messages {
         ensures same { self.new.kept ≡ self.old.kept }
         ensures kept { self.old.most ≤ self.new.most }
     {
-        self.long.reserve(most, FEW_LONG)?;
-        self.brief.reserve(most, FEW_BRIEF)?;
+        self.long.reserve(most, FEW)?;
+        self.brief.reserve(most, FEW)?;
         Ok(())
     }
 

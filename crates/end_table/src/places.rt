@@ -19,6 +19,10 @@ use indexmap::IndexMap;
 use std::alloc::{AllocError, Global};
 use std::marker::Model;
 
+/// Room for so many ends is made at first. Then each block but that of an index is larger than 128 KiB: it grows without a copy, and of it
+/// is touched only what is used.
+pub(crate) const FEW: usize = 12288;
+
 /// What one kernel keeps of each end, without the messages of sends that wait: of these it has what proofs see.
 #[derive(Drop)]
 pub(crate) struct Places {
@@ -70,6 +74,25 @@ impl Places {
     /// Gives an end without a place one with nothing in it.
     #[inline(never)]
     pub(crate) fn open(&mut self, end: EndId) -> Result<(), NoMemory>
+        ensures ok { OnOk result (Puts self.old self.new end Nothing) }
+        ensures same { OnErr result (self.new ≡ self.old) }
+        ensures count { length self.new.places ≤ length self.old.places + 1 }
+    {
+        self.begin()?;
+        self.add(end)
+    }
+
+    /// Makes room for the first places, where there is none at all.
+    fn begin(&mut self) -> Result<(), NoMemory>
+        ensures { self.new ≡ self.old }
+    {
+        if self.slots.capacity() == 0 {
+            self.slots.reserve(FEW)?;
+        }
+        Ok(())
+    }
+
+    fn add(&mut self, end: EndId) -> Result<(), NoMemory>
         ensures ok { OnOk result (Puts self.old self.new end Nothing) }
         ensures same { OnErr result (self.new ≡ self.old) }
         ensures count { length self.new.places ≤ length self.old.places + 1 }

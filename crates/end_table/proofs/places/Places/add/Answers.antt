@@ -1,6 +1,6 @@
 use Rattle.end_table.specs.Place.{end_eq}
 use Rattle.end_table.proofs.Change.{one_at_most, Puts-nothing, IsWellKept-Puts}
-use Rattle.end_table.proofs.places.Places.open.Goals as goal
+use Rattle.end_table.proofs.places.Places.add.Goals as goal
 
 pub invariant_of-self : goal.invariant_of-self
 unfolding end_eq
