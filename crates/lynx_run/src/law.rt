@@ -21,7 +21,7 @@ pub fn driven_is_one_text()
     ensures { (bytes : List ℕ) (lines others : List (List ℕ)) → IsDriven bytes lines → IsDriven bytes others → lines ≡ others }
 {}
 
-/// Where nothing outside fails, the file of a command that is built is there and within its limit, and its bytes obey the command's rules, the
+/// Where nothing outside fails, the file of a command that reads one file is there and within its limit, and its bytes obey the command's rules, the
 /// status is 0 and out gets the whole text, or memory ran out. Of files that tell what they hold this is said by that, else by what the
 /// read answered.
 pub fn each_command_is_complete()

@@ -6,11 +6,13 @@
 //! Of `check`: with status 0 it got the line `ok` with the name of the module that the bytes are read as, which breaks no typing rule. Of
 //! `code`: with status 0 it got the lines of the listing of the code of that module, each with one put, and that has at most 65,535
 //! instructions. Of `audit`: with status 0 it got the line `yes`, and the bytes are the transcript of a run; what `drive` puts is such a
-//! text. Else the first failure, in the order file, text, work, gives the status and the one line on standard error, with the first line
-//! and least rule of a script that is refused, the place of a module's first fault, for `code` also that its code is too long, or the line
-//! at which a transcript is not that of a run. The bytes are those that the command's one read answered, of real files too. Of `run`: the plan is
-//! read, and then each module once; with status 0 or 5 standard output got the lines of the transcript of a run of their programs, which is one
-//! lawful run of the link service. Every other command fails by its name, and reads nothing.
+//! text. Of `run`: with status 0, or that of used turns, it got the lines of the transcript of one run of the programs of the plan, each with
+//! the code of its module and the ends that the wires give it (`IsRunOfPlan`). What the entries of that transcript show is one lawful run of
+//! the link service; with status 0 it ends quiet, else a kernel used all its turns. Else the first failure, in the order file, text, work,
+//! for `run` plan, modules, params, gives the status and the one line on standard error, with the first line and least rule of a script or
+//! plan that is refused, the place of a module's first fault, for `code` and `run` also that its code is too long, or the line at which a
+//! transcript is not that of a run. The bytes are those that the command's reads answered, of real files too. Every other command fails by
+//! its name, and reads nothing.
 //! By clauses of `lynx`, `drive_file`, `check_file`, `code_file`, `audit_file` and `run_file`; `Answers`, `Drives`, `Checks`, `Codes`,
 //! `Audits`, `RunsPlan` in `specs/`; `lawful` of `IsDriven`; the laws
 //! `driven_is_audited`, `driven_is_one_text` and `each_command_is_complete`.
