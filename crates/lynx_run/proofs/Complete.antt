@@ -8,11 +8,13 @@ use Rattle.compiler_source.proofs.Stages.{one_compilation}
 use Rattle.compiler_source.specs.Compiled.{IsCompiledAs}
 use Rattle.lynx_command.specs.Course.{Course, IsOfFile, Outside, Took}
 use Rattle.lynx_command.specs.Ending.{Ends, EndsSo, EndsText, Tells}
+use Rattle.lynx_command.specs.Failures.{failure_text, status_of}
 use Rattle.lynx_command.specs.Found.{Found, OutputLines, FindsAt, FindsIn, read}
 use Rattle.lynx_command.specs.declared.ending.End.{End}
 use Rattle.lynx_command.specs.declared.ending.End.TheVariants.{Done}
 use Rattle.lynx_command.specs.declared.failure.Failure.{Failure}
 use Rattle.lynx_command.specs.declared.failure.Failure.TheVariants as failure
+use Rattle.lynx_load.specs.Loading.{Loading, Unloaded}
 use Rattle.lynx_outside.specs.Faults.{last_count, next_count}
 use Rattle.lynx_outside.specs.Files.{IsAnswer, Listing, Reads, bytes_of, counted_reads}
 use Rattle.lynx_outside.specs.Logged.{Put}
@@ -27,8 +29,9 @@ use Rattle.lynx_plan.specs.declared.fault.PlanFault.TheVariants as plan
 use Rattle.lynx_plan.specs.declared.script.Script.{Script}
 use Rattle.lynx_run.specs.Audit.{Audits}
 use Rattle.lynx_run.specs.Commands.{Answers, Finds, Performs, file_of}
-use Rattle.lynx_run.specs.Complete.{AreObeyed, HasFileOf, HasNoFault, IsComplete, IsObeyed, Obeys, StaysBelow}
+use Rattle.lynx_run.specs.Complete.{AreObeyed, DoesRun, HasFileOf, HasNoFault, IsComplete, IsCompleteRun, IsObeyed, Obeys, StaysBelow}
 use Rattle.lynx_run.specs.Drive.{Drives}
+use Rattle.lynx_run.specs.Run.{FindsRun, RunsLoaded, RunsPlan}
 use Rattle.lynx_command.specs.Failing.{FailsAs}
 use Rattle.lynx_source.proofs.Readings.{one_check}
 use Rattle.lynx_source.specs.Sources.{IsCheckedAs}
@@ -61,13 +64,27 @@ told-memory name old new ended errs stays were (inr (inl told)) = told.0
 told-memory name old new ended errs stays were (inr (inr fails)) = absurd (no-failed old new errs [] _ stays were fails.1)
 
 -- a text is put whole, or memory ran out
+put-whole : (old new : Outside) (name : List ℕ) (output : OutputLines) (ended : Status) (outs errs : List Put) → HasNoFault old new → WerePut old.out new.out outs → WerePut old.err new.err errs
+    → EndsText name output ended outs errs → ((outs ≡ map taken output.lines) × EndsSo output.end name ended errs) ⊎ (ended ≡ status.NoMemory)
+put-whole old new name output ended outs errs none out err (inl whole) = inl whole
+put-whole old new name output ended outs errs none out err (inr (inl stops)) = absurd (no-failed old.out new.out outs stops.1.before stops.1.line none.out out stops.1.puts_are)
+put-whole old new name output ended outs errs none out err (inr (inr short)) = inr (told-memory name old.err new.err ended errs none.err err short.1)
+
 text-ends : (old new : Outside) (name : List ℕ) (output : OutputLines) (ended : Status) (outs errs : List Put) → HasNoFault old new → WerePut old.out new.out outs → WerePut old.err new.err errs → output.end ≡ Done
     → EndsText name output ended outs errs → ((ended ≡ status.Done) × (outs ≡ map taken output.lines) × (errs ≡ [])) ⊎ (ended ≡ status.NoMemory)
-text-ends old new name output ended outs errs none out err is (inl whole) =
-    let so : EndsSo Done name ended errs = subst (λ (end : End). EndsSo end name ended errs) is whole.1 in
-    inl (so.0, whole.0, so.1)
-text-ends old new name output ended outs errs none out err is (inr (inl stops)) = absurd (no-failed old.out new.out outs stops.1.before stops.1.line none.out out stops.1.puts_are)
-text-ends old new name output ended outs errs none out err is (inr (inr short)) = inr (told-memory name old.err new.err ended errs none.err err short.1)
+text-ends old new name output ended outs errs none out err is ends =
+    elim (put-whole old new name output ended outs errs none out err ends) [
+      | inl whole ↦ let so : EndsSo Done name ended errs = subst (λ (end : End). EndsSo end name ended errs) is whole.1 in inl (so.0, whole.0, so.1)
+      | inr short ↦ inr short
+    ]
+
+-- a failure is told by its line, or memory ran out
+told-line : (name : List ℕ) (f : Failure) (old new : Stream) (ended : Status) (errs : List Put) → StaysBelow old.faults new.faults → WerePut old new errs → Tells name f ended errs
+    → ((ended ≡ status_of f) × (errs ≡ taken (failure_text name f) ∷ [])) ⊎ (ended ≡ status.NoMemory)
+told-line name f old new ended errs stays were (inl (inl told)) = inl told
+told-line name f old new ended errs stays were (inl (inr fails)) = absurd (no-failed old new errs [] _ stays were fails.1)
+told-line name f old new ended errs stays were (inr (inl told)) = inr told.0
+told-line name f old new ended errs stays were (inr (inr fails)) = absurd (no-failed old new errs [] _ stays were fails.1)
 
 -- ---- what obeys the rules has no failure but want of memory
 
@@ -228,3 +245,31 @@ told-complete command course ended old new files told has answers took none =
     let all : All (Reads files) course.reads = subst (λ (held : Option Listing). IfSome held (λ fs. All (Reads fs) course.reads)) told took.reads.told in
     let one : Reads files (read has.name has.most finds.0) = All-head (Reads files) _ [] (subst (All (Reads files)) finds.1 all) in
     answered command has.name has.most course ended old new has.file took none finds.0 finds.1 finds.2 (told-read command files has finds.0 one)
+
+-- ---- a plan
+
+-- the programs of a plan were run
+ran-whole : (x : Loading) (turns : ℕ) (course : Course) (ended : Status) (old new : Outside) → Took course ended old new → HasNoFault old new → (found : Found) → course.found ≡ found → FindsRun x turns found
+    → DoesRun turns (Ok x) course ended ⊎ (ended ≡ status.NoMemory)
+ran-whole x turns course ended old new took none (Ok output) e is =
+    elim (put-whole old new course.name output ended course.outs course.errs none took.outs took.errs (subst (λ f. Ends course.name f ended course.outs course.errs) e took.ends)) [
+      | inl whole ↦ inl (output, is, whole.0, whole.1)
+      | inr short ↦ inr short
+    ]
+ran-whole x turns course ended old new took none (Err f) e is =
+    let told : Ends course.name (Err failure.NoMemory) ended course.outs course.errs = subst (λ found. Ends course.name found ended course.outs course.errs) (e ∙ ap Err is) took.ends in
+    inr (told-memory course.name old.err new.err ended course.errs none.err took.errs told.1)
+
+does-run : (turns : ℕ) (course : Course) (ended : Status) (old new : Outside) → Took course ended old new → HasNoFault old new → (found : Result Loading Unloaded) → RunsLoaded turns found course
+    → DoesRun turns found course ended ⊎ (ended ≡ status.NoMemory)
+does-run turns course ended old new took none (Ok x) runs = ran-whole x turns course ended old new took none course.found refl runs
+does-run turns course ended old new took none (Err fault) runs =
+    let told : Ends course.name (Err fault.failure) ended course.outs course.errs = subst (λ found. Ends course.name found ended course.outs course.errs) runs.0 took.ends in
+    let of_file : Tells fault.file fault.failure ended course.errs = subst (λ n. Tells n fault.failure ended course.errs) runs.1 told.1 in
+    elim (told-line fault.file fault.failure old.err new.err ended course.errs none.err took.errs of_file) [
+      | inl line ↦ inl (told.0, line.0, line.1)
+      | inr short ↦ inr short
+    ]
+
+pub run-complete : (name : List ℕ) (turns : ℕ) (course : Course) (ended : Status) (old new : Outside) → RunsPlan name turns course → Took course ended old new → HasNoFault old new → IsCompleteRun name turns course ended
+run-complete name turns course ended old new runs took none = (runs.0, runs.1, does-run turns course ended old new took none runs.0 runs.2)

@@ -4,7 +4,10 @@ use Rattle.command_words.specs.declared.words.Command.{Command}
 use Rattle.command_words.specs.declared.words.Command.TheVariants.{Drive, Check, Code, Audit}
 use Rattle.compiler_source.specs.Compiled.{IsCompiledAs}
 use Rattle.lynx_command.specs.Course.{Course, Outside}
+use Rattle.lynx_command.specs.Ending.{EndsSo}
+use Rattle.lynx_command.specs.Failures.{failure_text, status_of}
 use Rattle.lynx_command.specs.Found.{OutputLines, read}
+use Rattle.lynx_load.specs.Loading.{Loading, Loads, Unloaded}
 use Rattle.lynx_outside.specs.Faults.{last_count}
 use Rattle.lynx_outside.specs.Files.{Listing, bytes_of}
 use Rattle.lynx_outside.specs.Logged.{Read}
@@ -16,6 +19,7 @@ use Rattle.lynx_outside.specs.declared.status.Status.TheVariants as status
 use Rattle.lynx_plan.specs.Reading.{script_of}
 use Rattle.lynx_plan.specs.declared.script.Script.{Script}
 use Rattle.lynx_run.specs.Commands.{Finds, file_of}
+use Rattle.lynx_run.specs.Run.{IsRunOfPlan}
 use Rattle.lynx_source.specs.Sources.{IsCheckedAs}
 use Rattle.lynx_tree.specs.Trees.{ModuleTree}
 use Rattle.transcript_audit.specs.Audit.{IsAudited}
@@ -77,3 +81,24 @@ pub record HasPutAll (command : Command) (course : Course) : Type 0 where
 -- the status is 0 and the whole text was put, or memory ran out
 abbrev pub IsComplete : Command → Course → Status → Type 0
 IsComplete command course ended = ((ended ≡ status.Done) × HasPutAll command course) ⊎ (ended ≡ status.NoMemory)
+
+-- ---- the plan of `run`
+
+-- out got the whole text of a run of the plan, and the status is that of its end
+abbrev pub PutsRun : Loading → ℕ → Course → Status → Type 0
+PutsRun x turns course ended =
+    (output : OutputLines) × IsRunOfPlan x turns output × (course.outs ≡ map taken output.lines) × EndsSo output.end course.name ended course.errs
+
+-- out got nothing, and err the line of the failure, with its status
+abbrev pub TellsOf : Unloaded → Course → Status → Type 0
+TellsOf fault course ended =
+    (course.outs ≡ []) × (ended ≡ status_of fault.failure) × (course.errs ≡ taken (failure_text fault.file fault.failure) ∷ [])
+
+abbrev pub DoesRun : ℕ → Result Loading Unloaded → Course → Status → Type 0
+DoesRun turns (Ok x) = PutsRun x turns
+DoesRun turns (Err fault) = TellsOf fault
+
+-- what was loaded was run and its whole text put, or why it was not loaded was told, or memory ran out
+abbrev pub IsCompleteRun : List ℕ → ℕ → Course → Status → Type 0
+IsCompleteRun name turns course ended =
+    (found : Result Loading Unloaded) × Loads name course.reads found × (DoesRun turns found course ended ⊎ (ended ≡ status.NoMemory))

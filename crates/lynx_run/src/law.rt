@@ -6,8 +6,9 @@ ghost use Rattle.lynx_command.specs.Course.{Course, Outside, Took};
 ghost use Rattle.lynx_outside.specs.Files.{Listing};
 ghost use Rattle.lynx_outside.specs.declared.status.Status.{Status as AStatus};
 ghost use Rattle.lynx_run.specs.Commands.{Answers, file_of};
-ghost use Rattle.lynx_run.specs.Complete.{AreObeyed, HasFileOf, HasNoFault, IsComplete};
+ghost use Rattle.lynx_run.specs.Complete.{AreObeyed, HasFileOf, HasNoFault, IsComplete, IsCompleteRun};
 ghost use Rattle.lynx_run.specs.Drive.{IsDriven};
+ghost use Rattle.lynx_run.specs.Run.{RunsPlan};
 ghost use Rattle.transcript_audit.specs.Audit.{IsAudited};
 ghost use Rattle.transcript_lines.specs.declared.last.Last.{Last};
 
@@ -31,4 +32,11 @@ pub fn each_command_is_complete()
     ensures by_answer { (command : ACommand) (name : List ℕ) (most : ℕ) (course : Course) (ended : AStatus) (old new : Outside)
         → file_of command ≡ Some (name, most) → Answers (Some command) course → Took course ended old new → HasNoFault old new
         → AreObeyed command course.reads → IsComplete command course ended }
+{}
+
+/// Where nothing outside fails, out gets the whole text of the run of a plan that is loaded, and the status is 0 or that of used turns; or the
+/// failure for which it is not loaded is told, with its status; or memory ran out.
+pub fn each_run_is_complete()
+    ensures { (name : List ℕ) (turns : ℕ) (course : Course) (ended : AStatus) (old new : Outside) → RunsPlan name turns course
+        → Took course ended old new → HasNoFault old new → IsCompleteRun name turns course ended }
 {}

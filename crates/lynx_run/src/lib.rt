@@ -15,7 +15,7 @@
 //! its name, and reads nothing.
 //! By clauses of `lynx`, `drive_file`, `check_file`, `code_file`, `audit_file` and `run_file`; `Answers`, `Drives`, `Checks`, `Codes`,
 //! `Audits`, `RunsPlan` in `specs/`; `lawful` of `IsDriven`; the laws
-//! `driven_is_audited`, `driven_is_one_text` and `each_command_is_complete`.
+//! `driven_is_audited`, `driven_is_one_text`, `each_command_is_complete` and `each_run_is_complete`.
 #![tactic(auto)]
 
 mod audit;
@@ -30,6 +30,8 @@ pub use audit::{AuditCommand, audit_file};
 pub use check::{CheckCommand, check_file};
 pub use code::{CodeCommand, code_file};
 pub use drive::{DriveCommand, drive_file};
-pub use law::{driven_is_audited, driven_is_one_text, each_command_is_complete};
+pub use law::{
+    driven_is_audited, driven_is_one_text, each_command_is_complete, each_run_is_complete,
+};
 pub use run::{Driver, run_file};
 pub use top::{fail, lynx};
