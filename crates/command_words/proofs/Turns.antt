@@ -1,5 +1,5 @@
 -- A kernel never has more turns than 100,000.
-use Rattle.std.proofs.Common.{◌≡◌, ◌<◌, ◌≤◌, ◌+◌, ◌==◌, ℕ, List, [], ◌∷◌, Bool, true, false, Option, Some, None, Result, Ok, Err, IfSome, refl, ap, subst, arith, take, drop}
+use Rattle.std.proofs.Common.{◌≡◌, ◌<◌, ◌≤◌, ◌==◌, ℕ, List, [], ◌∷◌, Bool, true, false, Option, Some, None, Result, Ok, Err, IfSome, refl, ap, subst, arith, take, drop}
 use Rattle.std.specs.Prelude.{codes, if◌then◌else◌, is_none, option_and_then, option_map, string_bytes, unwrap_or}
 use Rattle.std.specs.Result.{result_ok}
 use Rattle.std.specs.Str.{bytes_eq}
@@ -10,7 +10,6 @@ use Rattle.charlotte_text.specs.declared.fault.Fault.{Fault}
 use Rattle.command_words.specs.declared.words.Command.{Command}
 use Rattle.command_words.specs.declared.words.Command.TheVariants as command
 use Rattle.command_words.specs.declared.words.RunWords.{RunWords}
-use Rattle.command_words.specs.declared.words.SnapshotWords.{SnapshotWords}
 use Rattle.command_words.specs.declared.words.Verb.{Verb}
 use Rattle.command_words.specs.declared.words.Verb.TheVariants as verb
 use Rattle.command_words.specs.Words.{IsWithinTurns, Word, behind, command_of, is_spelled, not_zero, nothing_run, nothing_snapped, one_name, one_seed, run_command, run_of, run_read, snapshot_command, snapshot_of, snapshot_read, turns_number, verb_of, with_plan, with_serial, with_turns, with_word}
