@@ -22,7 +22,7 @@ command_name (Bench seed) = codes "bench"
 command_name (Audit file) = codes "audit"
 command_name (Snapshot plan at serial) = codes "snapshot"
 
--- the file that a command reads, and the most bytes of it; a command that is not built yet reads none
+-- the one file that a command reads, and the most bytes of it; `run` reads more than one, and a command that is not built yet none
 abbrev pub file_of : Command → Option (List ℕ × ℕ)
 file_of (Drive file) = Some (string_bytes file, most_bytes)
 file_of (Check file) = Some (string_bytes file, most_bytes)

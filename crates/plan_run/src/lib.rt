@@ -7,7 +7,7 @@
 //! where no letter is under way and each program has ended or waits. Else it ends with the least kernel whose packets taken and steps of programs
 //! are the turns that it may use, and the last line tells which. So a run in which no kernel used all its turns is quiet. Not promised: which order
 //! comes, that one thread makes the same events each time, and that workers run at the same time; that they run just where they are asked for is
-//! shown by a test of `worker_tests`. No command uses it yet.
+//! shown by a test of `worker_tests`.
 //! By the clause of `run_programs` (`IsRunOf` in `specs/Run.antt`) and the law `run_is_complete`.
 #![tactic(auto)]
 
