@@ -1,6 +1,7 @@
 """What is wrong with the form of a script's line (docs/SCRIPT.md, rule 1), but for its place among the others."""
 
 import re
+from collections.abc import Callable
 from itertools import zip_longest
 
 from calls import VERBS, call_fault
@@ -28,12 +29,17 @@ def is_skipped(line: bytes) -> bool:
 
 def form_fault(line: bytes, version: int) -> Reason | None:
     """What is wrong first. What is told to write has none of this form's faults, or nothing is told."""
-    reason = first_fault(line, version)
+    return whole_mend(line, lambda it: first_fault(it, version))
+
+
+def whole_mend(line: bytes, fault_of: Callable[[bytes], Reason | None]) -> Reason | None:
+    """The first fault of a line, with what is to write in its place where that can be mended as a whole."""
+    reason = fault_of(line)
     if reason is None or reason.mended is None:
         return reason
     mended = reason.mended
     for _ in range(MOST_MENDS):
-        again = first_fault(mended, version)
+        again = fault_of(mended)
         if again is None:
             return Reason(reason.at, reason.to, reason.sentence, mended)
         if again.mended is None:
@@ -120,7 +126,7 @@ def with_numbers(head: Word, form: tuple[bytes, ...], line: bytes) -> bytes | No
 
 def line_of_a_plan(line: bytes, head: Word, rest: list[Word]) -> Reason | None:
     if head.text == b"process" and len(rest) > 3 and rest[3].text in (b"runs", b"hosts"):
-        sentence = "This is a line of a plan, which `run` reads once it is built. In a script a process runs no module: its calls stand in lines of their own."
+        sentence = "This is a line of a plan, which `run` reads. In a script a process runs no module: its calls stand in lines of their own."
         return Reason(rest[3].at, len(line), sentence, line[: rest[3].at - 1])
     return None
 

@@ -108,7 +108,7 @@ def numbering(line: bytes, words: list[Word], given: Given) -> Reason:
 
 
 def kernel(line: bytes, words: list[Word], given: Given) -> Reason:
-    named = words[3:] if words[0].text == b"process" else words[1:]
+    named = words[3:4] if words[0].text == b"process" else words[1:]
     last = given.kernels - 1
     wrong = next(word for word in named if is_above(word.text, last))
     has = f"the kernels are 0 to {last}" if last else "the one kernel is 0"

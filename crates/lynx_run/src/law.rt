@@ -3,18 +3,25 @@ ghost use Rattle.std.specs.Prelude.{◌≡◌, ℕ, List, Some};
 ghost use Rattle.std.specs.List.{concat};
 ghost use Rattle.command_words.specs.declared.words.Command.{Command as ACommand};
 ghost use Rattle.lynx_command.specs.Course.{Course, Outside, Took};
+ghost use Rattle.lynx_command.specs.Found.{OutputLines};
+ghost use Rattle.lynx_load.specs.Loading.{Loading};
 ghost use Rattle.lynx_outside.specs.Files.{Listing};
 ghost use Rattle.lynx_outside.specs.declared.status.Status.{Status as AStatus};
 ghost use Rattle.lynx_run.specs.Commands.{Answers, file_of};
 ghost use Rattle.lynx_run.specs.Complete.{AreObeyed, HasFileOf, HasNoFault, IsComplete, IsCompleteRun};
 ghost use Rattle.lynx_run.specs.Drive.{IsDriven};
-ghost use Rattle.lynx_run.specs.Run.{RunsPlan};
+ghost use Rattle.lynx_run.specs.Run.{IsRunOfPlan, RunsPlan};
 ghost use Rattle.transcript_audit.specs.Audit.{IsAudited};
 ghost use Rattle.transcript_lines.specs.declared.last.Last.{Last};
 
 /// What `drive` puts on out is a text that `audit` accepts, where it has no more bytes than `audit` reads.
 pub fn driven_is_audited()
     ensures { (bytes : List ℕ) (lines : List (List ℕ)) → IsDriven bytes lines → (last : Last) × IsAudited (concat lines) last }
+{}
+
+/// So is what `run` puts of a plan that was loaded.
+pub fn ran_is_audited()
+    ensures { (x : Loading) (turns : ℕ) (output : OutputLines) → IsRunOfPlan x turns output → (last : Last) × IsAudited (concat output.lines) last }
 {}
 
 /// `drive` has one text to put of a script.

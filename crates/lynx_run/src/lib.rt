@@ -5,8 +5,8 @@
 //! and what the entries of that transcript show is one lawful run of the link service, for whose state the kernels stand after each entry.
 //! Of `check`: with status 0 it got the line `ok` with the name of the module that the bytes are read as, which breaks no typing rule. Of
 //! `code`: with status 0 it got the lines of the listing of the code of that module, each with one put, and that has at most 65,535
-//! instructions. Of `audit`: with status 0 it got the line `yes`, and the bytes are the transcript of a run; what `drive` puts is such a
-//! text. Of `run`: with status 0, or that of used turns, it got the lines of the transcript of one run of the programs of the plan, each with
+//! instructions. Of `audit`: with status 0 it got the line `yes`, and the bytes are the transcript of a run; what `drive` or `run`
+//! puts is such a text. Of `run`: with status 0, or that of used turns, it got the lines of the transcript of one run of the programs of the plan, each with
 //! the code of its module and the ends that the wires give it (`IsRunOfPlan`). What the entries of that transcript show is one lawful run of
 //! the link service; with status 0 it ends quiet, else a kernel used all its turns. Else the first failure, in the order file, text, work,
 //! for `run` plan, modules, params, gives the status and the one line on standard error, with the first line and least rule of a script or
@@ -15,7 +15,7 @@
 //! its name, and reads nothing.
 //! By clauses of `lynx`, `drive_file`, `check_file`, `code_file`, `audit_file` and `run_file`; `Answers`, `Drives`, `Checks`, `Codes`,
 //! `Audits`, `RunsPlan` in `specs/`; `lawful` of `IsDriven`; the laws
-//! `driven_is_audited`, `driven_is_one_text`, `each_command_is_complete` and `each_run_is_complete`.
+//! `driven_is_audited`, `ran_is_audited`, `driven_is_one_text`, `each_command_is_complete` and `each_run_is_complete`.
 #![tactic(auto)]
 
 mod audit;
@@ -32,6 +32,7 @@ pub use code::{CodeCommand, code_file};
 pub use drive::{DriveCommand, drive_file};
 pub use law::{
     driven_is_audited, driven_is_one_text, each_command_is_complete, each_run_is_complete,
+    ran_is_audited,
 };
 pub use run::{Driver, run_file};
 pub use top::{fail, lynx};
