@@ -73,8 +73,17 @@ def try_examples(tries: Tries) -> None:
         try_drawing(tries, transcript)
 
 
+def try_plans(tries: Tries) -> None:
+    """The transcripts of plans are drawn. Of the short ones the drawing is kept."""
+    for transcript in sorted((EXAMPLES / "plans").glob("*.transcript")):
+        kept = transcript.with_suffix(".svg")
+        tries.expect(not kept.exists() or kept.read_text() == draw(transcript).out, f"{kept.name} is the drawing of {transcript.name}")
+        try_drawing(tries, transcript)
+
+
 def write_examples() -> None:
-    for transcript in sorted(EXAMPLES.glob("*.transcript")):
+    plans = [kept.with_suffix(".transcript") for kept in sorted((EXAMPLES / "plans").glob("*.svg"))]
+    for transcript in sorted(EXAMPLES.glob("*.transcript")) + plans:
         transcript.with_suffix(".svg").write_text(draw(transcript).out)
 
 
@@ -298,6 +307,7 @@ def main() -> int:
     tries = Tries()
     with tempfile.TemporaryDirectory() as folder:
         try_examples(tries)
+        try_plans(tries)
         try_pages(tries)
         try_wrong_drawings(tries)
         try_refusals(tries, Path(folder))

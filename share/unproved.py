@@ -1,6 +1,6 @@
 #!/usr/bin/env python3
-"""Runs a command of the program by the same sources, compiled without a proof: unproved.py TOP CRATES --for PARENT [COMMAND] FILE, where CRATES
-has a line `NAME NEED ..` for each crate, that of the program first. It ends where the process PARENT, which waits for it, has ended.
+"""Runs a command of the program by the same sources, compiled without a proof: unproved.py TOP CRATES --for PARENT [COMMAND] FILE [OPTION ..], where
+CRATES has a line `NAME NEED ..` for each crate, that of the program first. It ends where the process PARENT, which waits for it, has ended.
 
 The toolchain's `rt try` compiles the sources with checks, and runs them in a folder of its own, for 60 seconds at most, with at most 1 MiB of output.
 What the program puts on its streams, and its status, are handed on, with one line behind it on standard error: that nothing of this was proved.
@@ -26,6 +26,8 @@ MOST_KEPT = 67_108_865
 ENDED = re.compile(rb"(?:^|\n)checked: [^\n]*\nrun=ended status=(\d+) [^\n]*\n*\Z")
 # The names under which `rt try` lends a file to the program: in its folder, and none of its own.
 PLAIN = re.compile(r"(?!program|stdin|stdout|stderr)[A-Za-z0-9_][A-Za-z0-9_.-]*\Z")
+# The line of a plan by which a process runs a module, and the module's name.
+RUNS = re.compile(rb"(?m)^(process \d+ on \d+ runs )([!-~]+)$")
 
 
 def say(text):
@@ -38,7 +40,7 @@ def say(text):
 class Lent:
     """The file that the command is about, under the name that the program is called with."""
 
-    def __init__(self, name):
+    def __init__(self, name, number=0):
         self.name = name
         self.there = os.path.abspath(name)
         self.copy = None
@@ -48,7 +50,7 @@ class Lent:
             return
         if not os.path.isfile(self.there) or name == STANDARD_INPUT:
             self.keep()
-        self.called = name if PLAIN.match(name) else f"the_file_that_was_named_{os.getpid()}"
+        self.called = name if PLAIN.match(name) else f"the_file_{number}_that_was_named_{os.getpid()}"
 
     def keep(self):
         """A copy of what another program can not read here, as standard input or a pipe."""
@@ -66,14 +68,49 @@ class Lent:
         return text.replace(os.fsencode(self.called), os.fsencode(self.name))
 
 
+class LentPlan(Lent):
+    """A plan and the modules that it names: it is a copy that names them as they are lent. What is not there is named as it was."""
+
+    def __init__(self, name):
+        super().__init__(name)
+        self.modules = {}
+        if os.path.isfile(self.there):
+            with open(self.there, "rb") as file:
+                text = file.read(MOST_KEPT)
+            names = dict.fromkeys(name for _, name in RUNS.findall(text) if os.path.isfile(name))
+            self.modules = {name: Lent(os.fsdecode(name), number) for number, name in enumerate(names, 1)}
+            self.copy = tempfile.NamedTemporaryFile()
+            self.copy.write(RUNS.sub(self.line, text))
+            self.copy.flush()
+            self.there = self.copy.name
+
+    def line(self, found):
+        module = self.modules.get(found[2])
+        return found[1] + (os.fsencode(module.called) if module else found[2])
+
+    def words(self):
+        return super().words() + [word for module in self.modules.values() for word in module.words()]
+
+    def renamed(self, text):
+        for module in self.modules.values():
+            text = module.renamed(text)
+        return super().renamed(text)
+
+
+def parted(words):
+    """What stands before the file, the file, and what stands behind it: it is the last word that is no option, and no number behind `--turns`."""
+    files = [at for at, word in enumerate(words) if not word.startswith("--") and words[at - 1 : at] != ["--turns"]]
+    return words[: files[-1]], words[files[-1]], words[files[-1] + 1 :]
+
+
 def told(started):
     say(f"compiling without a proof, {round(time.time() - started)} seconds so far")
 
 
-def tried(crate, command, lent, parent):
-    """What `rt try` put on its streams. None where nobody waits for it any more."""
+def tried(crate, called, lent, parent):
+    """What `rt try` put on its streams, where the program is called with these words. None where nobody waits for it any more."""
     with tempfile.TemporaryFile() as out, tempfile.TemporaryFile() as err:
-        words = ["rt", "try", *lent.words(), "--", *command, lent.called]
+        words = ["rt", "try", *lent.words(), "--", *called]
         run = subprocess.Popen(words, cwd=crate, stdin=subprocess.DEVNULL, stdout=out, stderr=err, start_new_session=True)
         try:
             started = last = time.time()
@@ -124,10 +161,10 @@ def put(stream, text):
 def main():
     top, needs, _, parent, *words = sys.argv[1:]
     crates = [line.split()[0] for line in needs.splitlines()]
-    *command, name = words
-    lent = Lent(name)
+    command, name, options = parted(words)
+    lent = LentPlan(name) if command[:1] == ["run"] else Lent(name)
     say(f"{len(crates)} crates are compiled without a proof, for this call alone: a minute or two")
-    streams = tried(f"{top}/crates/{crates[0]}", command, lent, int(parent))
+    streams = tried(f"{top}/crates/{crates[0]}", [*command, lent.called, *options], lent, int(parent))
     return NOT_BUILT if streams is None else hand_on(*streams, lent)
 
 

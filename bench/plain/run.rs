@@ -1,7 +1,8 @@
-//! `run PLAN [--serial] [--turns N]`: runs the modules of a plan on one to eight kernels and prints the transcript.
+//! `run [--buffered] PLAN [--serial] [--turns N]`: runs the modules of a plan on one to eight kernels and prints the transcript, as `lynx run PLAN` does.
 //!
 //! It is what runs of modules are measured beside: plain Rust with the standard library alone, written for speed, and not proved. With `--serial`
-//! the nodes make a turn each, in order, else each has a thread. Of a plan that breaks a rule it tells the line alone.
+//! the nodes make a turn each, in order, else each has a thread. Each line of the transcript is one write call, with `--buffered` it is not. Of a plan
+//! that breaks a rule it tells the line alone.
 #![allow(dead_code)]
 
 mod compiler;
@@ -11,6 +12,7 @@ mod packet;
 mod process;
 
 use std::io::{self, BufWriter, Write};
+use std::os::fd::AsFd;
 
 include!("kernels.rs");
 include!("merging.rs");
@@ -131,8 +133,7 @@ fn load(name: &str) -> Loaded {
 
 // ---------------------------------------------------------------- the program
 
-fn put(nodes: Vec<Node<Lynx>>, setting: &Setting, spent: Option<u8>) -> io::Result<()> {
-    let mut out = BufWriter::with_capacity(1 << 16, io::stdout());
+fn put(mut out: impl Write, nodes: Vec<Node<Lynx>>, setting: &Setting, spent: Option<u8>) -> io::Result<()> {
     let journals: Vec<Journal> = nodes.into_iter().map(|node| node.kernel.journal).collect();
     put_header(&mut out, setting)?;
     put_merged(&mut out, &journals)?;
@@ -140,10 +141,21 @@ fn put(nodes: Vec<Node<Lynx>>, setting: &Setting, spent: Option<u8>) -> io::Resu
     out.flush()
 }
 
+/// Puts the transcript to standard output.
+fn put_out(is_buffered: bool, nodes: Vec<Node<Lynx>>, setting: &Setting, spent: Option<u8>) -> io::Result<()> {
+    // the file itself, since std's standard output keeps lines back
+    let out = File::from(io::stdout().as_fd().try_clone_to_owned()?);
+    if is_buffered {
+        put(BufWriter::with_capacity(1 << 16, out), nodes, setting, spent)
+    } else {
+        put(out, nodes, setting, spent)
+    }
+}
+
 fn main() {
     let mut words: Vec<String> = std::env::args().skip(1).collect();
-    let mut has = |option: &str| words.iter().position(|word| word == option);
-    let serial = has("--serial").map(|at| words.remove(at)).is_some();
+    let mut takes = |option: &str| words.iter().position(|word| word == option).map(|at| words.remove(at)).is_some();
+    let (is_buffered, serial) = (takes("--buffered"), takes("--serial"));
     let turns = words.iter().position(|word| word == "--turns").map_or(MOST_TURNS, |at| {
         words.remove(at);
         if at < words.len() {
@@ -152,7 +164,7 @@ fn main() {
             fail(1, "run: usage")
         }
     });
-    let [name] = &words[..] else { fail(1, "run: PLAN [--serial] [--turns N]") };
+    let [name] = &words[..] else { fail(1, "run: [--buffered] PLAN [--serial] [--turns N]") };
     let plan = read_plan(name);
     let modules: Vec<Loaded> = plan.files.iter().map(|file| load(file)).collect();
     let ends = plan.ends();
@@ -166,7 +178,7 @@ fn main() {
     let mut nodes = nodes_of(&plan.setting, programs, turns);
     let rings = rings();
     let spent = if serial { run_serial(&mut nodes, &rings) } else { run_threads(&mut nodes, &rings) };
-    if put(nodes, &plan.setting, spent).is_err() {
+    if put_out(is_buffered, nodes, &plan.setting, spent).is_err() {
         exit(3);
     }
     exit(if spent.is_some() { 5 } else { 0 });
