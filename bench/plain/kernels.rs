@@ -66,6 +66,7 @@ impl Hasher for EndHasher {
 type Bytes = Box<[u8]>;
 type Ends = Box<[End]>;
 
+#[derive(Clone)]
 struct Message {
     bytes: Bytes,
     enclosed: Ends,
@@ -304,7 +305,7 @@ fn put_values(text: &mut Vec<u8>, values: &[Moving]) {
 }
 
 /// The texts of a kernel's events, one behind the other.
-#[derive(Default)]
+#[derive(Clone, Default)]
 struct Journal {
     text: Vec<u8>,
     entries: Vec<(u64, u32)>,
@@ -503,6 +504,7 @@ enum Holder {
 }
 
 /// The number of the send is the end's `sent`.
+#[derive(Clone)]
 enum Outward {
     Idle,
     Waiting(Box<Message>),
@@ -519,6 +521,7 @@ enum Inward {
     Unreported,
 }
 
+#[derive(Clone)]
 struct Here {
     moving: Moving,
     holder: Holder,
@@ -551,6 +554,7 @@ impl Here {
     }
 }
 
+#[derive(Clone)]
 enum Entry {
     Here(Here),
     Left { to: u8, hops: u32 },
@@ -570,6 +574,7 @@ fn owned(table: &mut Table, p: u8, end: End) -> Option<&mut Here> {
     here(table, end).filter(|here| here.holder == Holder::Owner(p))
 }
 
+#[derive(Clone)]
 struct Report {
     on: End,
     is_inward: bool,
@@ -590,6 +595,7 @@ type Outcome = Result<Option<Answer>, &'static [u8]>;
 /// What a process is told of its call.
 // not each program has processes that hear it
 #[allow(dead_code)]
+#[derive(Clone)]
 enum Answer {
     Ok,
     Made(End, End),
@@ -605,6 +611,7 @@ enum State {
     Exited,
 }
 
+#[derive(Clone)]
 struct Process {
     home: u8,
     state: State,
@@ -616,6 +623,7 @@ struct Process {
 }
 
 /// A want, unwant or unwanted.
+#[derive(Clone)]
 struct Ask {
     to: End,
     w: u32,
@@ -623,6 +631,7 @@ struct Ask {
     hops: u32,
 }
 
+#[derive(Clone)]
 struct Parcel {
     to: End,
     n: u32,
@@ -633,6 +642,7 @@ struct Parcel {
     moving: Box<[Moving]>,
 }
 
+#[derive(Clone)]
 enum What {
     Want(Ask),
     Unwant(Ask),
@@ -647,12 +657,14 @@ enum What {
     GoneSeen { to: End },
 }
 
+#[derive(Clone)]
 struct Packet {
     stamp: u64,
     what: What,
 }
 
 /// A list for each pair of kernels, and a bit for each that is not empty, in order of (from, to).
+#[derive(Clone)]
 struct Net {
     lists: Vec<VecDeque<Packet>>,
     filled: u64,
@@ -677,6 +689,7 @@ impl Net {
     }
 }
 
+#[derive(Clone)]
 struct Kernel {
     id: u8,
     stamp: u64,
@@ -1272,6 +1285,7 @@ impl Event<'_> {
 
 // ---------------------------------------------------------------- worlds
 
+#[derive(Clone)]
 struct World {
     kernels: Vec<Kernel>,
     processes: Vec<Process>,

@@ -1,11 +1,14 @@
 //! Random runs of kernels, in which the clauses on traces of ends are tested after each event: those of `IsTraced` (crates/trace_meaning), each
-//! as it is defined there, and that no table has a trace where no packet is under way.
+//! as it is defined there, and that no table has a trace where no packet is under way. Or random states in which all clauses are true but one at
+//! most: it makes an event in each, and tells which clauses that makes false.
 //!
 //!     traces SEED EVENTS              so many events, in runs of at most 600
+//!     traces SEED STATES states       so many states of those in which all clauses are true, and of others as they come
 
 use std::process::ExitCode;
 
 include!("kernels.rs");
+include!("trace_states.rs");
 
 const EVENTS_OF_A_RUN: usize = 600;
 
@@ -36,6 +39,34 @@ fn values_of(what: &What) -> &[Moving] {
     }
 }
 
+fn word_of(what: &What) -> &'static str {
+    match what {
+        What::Want(_) => "want",
+        What::Unwant(_) => "unwant",
+        What::Unwanted(_) => "unwanted",
+        What::Parcel(_) => "parcel",
+        What::Taken { .. } => "taken",
+        What::Back { .. } => "back",
+        What::Gone { .. } => "gone",
+        What::Moved { .. } => "moved",
+        What::Known { .. } => "known",
+        What::Forget { .. } => "forget",
+        What::GoneSeen { .. } => "goneseen",
+    }
+}
+
+fn word_of_call(call: &Call) -> &'static str {
+    match call {
+        Call::Make => "Make",
+        Call::Destroy(_) => "Destroy",
+        Call::Send(..) => "Send",
+        Call::Receive(_) => "Receive",
+        Call::CancelOut(_) | Call::CancelIn(_) => "Cancel",
+        Call::Exit => "Exit",
+        Call::Wait | Call::Print(_) => "Wait",
+    }
+}
+
 /// A value of `e` is in one of these packets, and its hops are so.
 fn is_flying<'a>(mut packets: impl Iterator<Item = &'a Packet>, e: End, are: impl Fn(u32) -> bool) -> bool {
     packets.any(|packet| values_of(&packet.what).iter().any(|value| value.end == e && are(value.hops)))
@@ -50,6 +81,9 @@ fn news(what: &What) -> Option<(End, u8, u32)> {
         _ => None,
     }
 }
+
+/// A clause, and whether it is true.
+type Clause = (&'static str, bool);
 
 impl World {
     fn entry(&self, k: u8, e: End) -> Option<&Entry> {
@@ -164,9 +198,10 @@ impl World {
         self.fields(e.opposite()).into_iter().all(of)
     }
 
-    fn is_seen_right(&self, e: End) -> bool {
+    fn is_seen_right(&self, e: End) -> [Clause; 2] {
         let is = |what: &What| matches!(what, What::GoneSeen { to } if *to == e);
-        !self.packets().any(|(_, _, _, packet)| is(&packet.what)) || !self.is_living(e) && !self.is_sought(e.opposite())
+        let none = !self.packets().any(|(_, _, _, packet)| is(&packet.what));
+        [("seen, destroyed", none || !self.is_living(e)), ("seen, unsought", none || !self.is_sought(e.opposite()))]
     }
 
     fn is_known_right(&self, e: End) -> bool {
@@ -188,22 +223,27 @@ impl World {
         value.is_dead || value.trail == 0 || !self.is_living(o) || self.goes_to(k, known) || self.is_on_track(o, value.hint_hops, moved)
     }
 
-    fn is_left_right(&self, e: End, k: u8, h: u32) -> bool {
+    fn is_left_right(&self, e: End, k: u8, h: u32) -> [Clause; 3] {
         let fields = self.fields(e);
         let trailed = self.is_sought(e) && fields.iter().any(|value| value.trail >> k & 1 == 1);
         let told = |what: &What| matches!(what, What::Forget { to, hops } if *to == e && h <= *hops);
-        1 <= h && fields.iter().all(|value| h <= value.hops) && (trailed || self.goes_to(k, told))
+        [
+            ("left, some hops", 1 <= h),
+            ("left, no more than its end", fields.iter().all(|value| h <= value.hops)),
+            ("left, kept", trailed || self.goes_to(k, told)),
+        ]
     }
 
-    fn is_told_from(&self, e: End, d: u8) -> bool {
+    fn is_told_from(&self, e: End, d: u8) -> [Clause; 3] {
         let o = e.opposite();
-        let open = self.is_open(o);
-        self.packets().all(|(from, to, _, packet)| match &packet.what {
-            What::Gone { to: end, at } if *end == o => *at == d,
-            What::Back { to: end, .. } if open && *end == o => from == d,
-            What::Parcel(parcel) if open && parcel.to == e => to == d,
-            _ => true,
-        })
+        let gone = |what: &What| matches!(what, What::Gone { to, at } if *to == o && *at != d);
+        let back = |from: u8, what: &What| from != d && matches!(what, What::Back { to, .. } if *to == o);
+        let parcel = |to: u8, what: &What| to != d && matches!(what, What::Parcel(parcel) if parcel.to == e);
+        [
+            ("mark, gone", !self.packets().any(|(_, _, _, packet)| gone(&packet.what))),
+            ("mark, backs", !self.is_open(o) || !self.packets().any(|(from, _, _, packet)| back(from, &packet.what))),
+            ("mark, parcels", !self.is_open(o) || !self.packets().any(|(_, to, _, packet)| parcel(to, &packet.what))),
+        ]
     }
 
     fn is_mourned(&self, e: End, d: u8, mark: &Moving) -> bool {
@@ -213,28 +253,27 @@ impl World {
         self.goes_to(d, seen) || self.is_sought(o) && self.is_on_track(o, mark.hint_hops, gone)
     }
 
-    fn is_mark_right(&self, e: End, d: u8, mark: &Moving) -> [(&'static str, bool); 4] {
+    fn is_mark_right(&self, e: End, d: u8, mark: &Moving) -> Vec<Clause> {
         let o = e.opposite();
         let asked = || self.fields(o).iter().all(|fields| self.unserved(o, fields).into_iter().all(|told| told == (d, mark.hops)));
-        [
-            ("dead", !mark.is_dead),
-            ("gone, backs or parcels", self.is_told_from(e, d)),
-            ("asked", !self.is_open(o) || asked()),
-            ("mourned", self.is_mourned(e, d, mark)),
-        ]
+        let own =
+            [("mark, dead", !mark.is_dead), ("mark, asked", !self.is_open(o) || asked()), ("mark, mourned", self.is_mourned(e, d, mark))];
+        self.is_told_from(e, d).into_iter().chain(own).collect()
     }
 
-    /// The first clause that is false of an end.
-    fn false_of(&self, e: End) -> Option<&'static str> {
-        let whole =
-            [("met", self.is_met(e)), ("reached", self.is_reached(e)), ("seen", self.is_seen_right(e)), ("known", self.is_known_right(e))];
-        let at = |k| match self.entry(k, e) {
-            None => None,
-            Some(Entry::Here(here)) => (!self.is_announced(e, k, &here.moving)).then_some("announced"),
-            Some(Entry::Left { hops, .. }) => (!self.is_left_right(e, k, *hops)).then_some("left"),
-            Some(Entry::Destroyed(mark)) => self.is_mark_right(e, k, mark).into_iter().find(|clause| !clause.1).map(|clause| clause.0),
-        };
-        whole.into_iter().find(|clause| !clause.1).map(|clause| clause.0).or_else(|| self.numbers().find_map(at))
+    /// The clauses that are false of an end.
+    fn false_of(&self, e: End) -> Vec<&'static str> {
+        let mut all = vec![("met", self.is_met(e)), ("reached", self.is_reached(e)), ("known", self.is_known_right(e))];
+        all.extend(self.is_seen_right(e));
+        for k in self.numbers() {
+            match self.entry(k, e) {
+                None => {}
+                Some(Entry::Here(here)) => all.push(("announced", self.is_announced(e, k, &here.moving))),
+                Some(Entry::Left { hops, .. }) => all.extend(self.is_left_right(e, k, *hops)),
+                Some(Entry::Destroyed(mark)) => all.extend(self.is_mark_right(e, k, mark)),
+            }
+        }
+        all.into_iter().filter(|clause| !clause.1).map(|clause| clause.0).collect()
     }
 
     fn is_bare(&self) -> bool {
@@ -243,7 +282,7 @@ impl World {
     }
 
     fn first_false(&self) -> Option<String> {
-        let of_end = |e: End| self.false_of(e).map(|clause| format!("{clause}, of the end {:x}", e.0));
+        let of_end = |e: End| self.false_of(e).first().map(|clause| format!("{clause}, of the end {:x}", e.0));
         self.ends().into_iter().find_map(of_end).or_else(|| (!self.is_bare()).then(|| "bare".to_string()))
     }
 
@@ -278,20 +317,29 @@ impl World {
         Message { bytes: Box::default(), enclosed: enclosed.into() }
     }
 
+    fn filled(&self) -> Vec<usize> {
+        (0..MOST_KERNELS * MOST_KERNELS).filter(|place| !self.net.lists[*place].is_empty()).collect()
+    }
+
     /// A call or a taking, of which so many in ten are tried; whether there was one.
     fn any_event(&mut self, takings: usize, chance: &mut Chance) -> bool {
         if chance.below(10) < takings {
-            let filled: Vec<usize> = (0..MOST_KERNELS * MOST_KERNELS).filter(|place| !self.net.lists[*place].is_empty()).collect();
-            return chance.pick(&filled).is_some_and(|place| self.take(place));
+            return chance.pick(&self.filled()).is_some_and(|place| self.take(place));
         }
+        self.make_call(chance).is_some()
+    }
+
+    /// Any call of a process; its word, if it may make one.
+    fn make_call(&mut self, chance: &mut Chance) -> Option<&'static str> {
         let p = chance.below(self.processes.len()) as u8;
         if self.processes[usize::from(p)].state != State::Running {
-            return false;
+            return None;
         }
-        let Some(call) = self.any_call(p, chance) else { return false };
+        let call = self.any_call(p, chance)?;
+        let word = word_of_call(&call);
         let home = self.processes[usize::from(p)].home;
         self.event(home, 0).ask(p, call);
-        true
+        Some(word)
     }
 }
 
@@ -327,9 +375,12 @@ fn run(seed: u64, most: usize) -> (usize, usize, Option<String>) {
 fn main() -> ExitCode {
     let numbers: Vec<u64> = std::env::args().skip(1).filter_map(|word| word.parse().ok()).collect();
     let [mut seed, most] = numbers[..] else {
-        eprintln!("traces SEED EVENTS");
+        eprintln!("traces SEED EVENTS|STATES [states]");
         return ExitCode::from(2);
     };
+    if std::env::args().any(|word| word == "states") {
+        return states(seed, most as usize);
+    }
     let (mut events, mut quiet, mut runs) = (0, 0, 0);
     while (events as u64) < most {
         let (made, rested, failed) = run(seed, EVENTS_OF_A_RUN);
