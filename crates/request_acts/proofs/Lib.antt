@@ -1,0 +1,10 @@
+pub mod Fleets
+pub mod Replays
+pub mod Callers
+pub mod Making
+pub mod Recorded
+pub mod Alone
+pub mod Paused
+pub mod One
+pub mod Acted
+pub mod Given
