@@ -8,3 +8,6 @@ pub mod Paused
 pub mod One
 pub mod Acted
 pub mod Given
+pub mod Own
+pub mod Worked
+pub mod Claims
