@@ -1,22 +1,21 @@
 -- Of each run whose processes are LYNX programs there are deeds, and no others.
-use Rattle.std.proofs.Common.{◌≡◌, ◌⊎◌, ℕ, zero, suc, ◌+◌, ◌<◌, ◌≤◌, true, false, List, [], ◌∷◌, ◌++◌, length, map, inl, inr, refl, sym, ap, subst, ◌∙◌, arith}
+use Rattle.std.proofs.Common.{◌≡◌, ◌⊎◌, ℕ, zero, suc, ◌+◌, ◌<◌, ◌≤◌, true, false, List, ◌++◌, length, map, inl, inr, refl, sym, ap, ◌∙◌, arith}
 use Rattle.std.specs.Prelude.{leb}
-use Rattle.std.specs.List.{AllByRecursion, flat_map, range_with_len}
+use Rattle.std.specs.List.{range_with_len}
 use Rattle.std.proofs.lemmas.Bool.Decides.{leb_tells}
-use Rattle.charlotte_calls.specs.declared.names.Pid.{Pid}
 use Rattle.charlotte_calls.specs.declared.setting.Setting.{Setting}
 use Rattle.kernel_entries.specs.Order.{of_kernel}
 use Rattle.kernel_entries.specs.declared.entry.Placed.{Placed}
 use Rattle.kernel_world.specs.Run.{IsRecord}
 use Rattle.kernel_world.specs.World.{Event}
 use Rattle.process_run.specs.Runs.{step}
-use Rattle.process_run.specs.States.{DeedOn, State, start_of}
-use Rattle.program_runs.specs.Replay.{Replayed, Replays, ReplaysProgram, replay_start}
-use Rattle.language_links.specs.Acting.{Acting, Acts, Done, Fleet, Program, at_end, at_start, done_by}
+use Rattle.process_run.specs.States.{State, start_of}
+use Rattle.program_runs.specs.Replay.{Replayed, Replays, replay_start}
+use Rattle.language_links.specs.Acting.{Acting, Done, Program, at_end, at_start, done_by}
 use Rattle.request_acts.specs.Acted.{AreActed, AreReplayed, deeds_of, home_of, process}
 use Rattle.request_acts.proofs.Alone.{alone}
 use Rattle.request_acts.proofs.Making.{made}
-use Rattle.request_acts.proofs.One.{AreJoined, AreOne, joined-same, one}
+use Rattle.request_acts.proofs.One.{AreOne, joined-same, one}
 use Rattle.request_acts.proofs.Paused.{one-after}
 use Rattle.request_acts.proofs.Recorded.{own-entries}
 

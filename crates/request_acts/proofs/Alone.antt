@@ -1,20 +1,15 @@
 -- In one replay of all processes each makes a replay of its own.
-use Rattle.std.proofs.Common.{◌≡◌, ℕ, ◌+◌, nat_eq, Bool, true, false, List, [], ◌∷◌, Option, Some, None, refl, sym, ap, subst, ◌∙◌}
+use Rattle.std.proofs.Common.{◌≡◌, ℕ, nat_eq, Bool, true, false, List, ◌∷◌, None, refl, sym, ap, subst, ◌∙◌}
 use Rattle.std.proofs.lemmas.Bool.{eq-eqb, eqb-true}
-use Rattle.charlotte_calls.specs.declared.calls.Answer.{Answer}
-use Rattle.charlotte_calls.specs.declared.calls.Call.{Call}
-use Rattle.charlotte_calls.specs.declared.names.Pid.{Pid}
 use Rattle.kernel_entries.specs.Order.{of_kernel}
 use Rattle.kernel_entries.specs.declared.entry.Entry.{Entry}
-use Rattle.kernel_entries.specs.declared.entry.Happened.{Happened}
-use Rattle.kernel_entries.specs.declared.entry.Happened.TheVariants.{Asked, Took}
 use Rattle.kernel_entries.specs.declared.entry.Placed.{Placed}
 use Rattle.process_run.specs.Runs.{step}
 use Rattle.process_run.specs.States.{State}
 use Rattle.program_runs.specs.Replay.{Replayed, Replays}
 use Rattle.program_runs.specs.Replay as replay
 use Rattle.told_answers.specs.Told.{call_of}
-use Rattle.language_links.specs.Acting.{Acting, Acts, Calls, Done, Fleet, IsAsking, IsPausing, Pauses, Rests, Takes, called, hears_entry, paused, with_acting}
+use Rattle.language_links.specs.Acting.{Acting, Acts, Calls, Done, Fleet, Pauses, Rests, Takes, called, hears_entry, paused, with_acting}
 use Rattle.request_acts.specs.Acted.{process}
 use Rattle.request_acts.proofs.Fleets.{asked_by, entries-here, entries-not, heard-here, heard-not, heard_by, set-other, set-self}
 use Rattle.request_acts.proofs.Callers.{none-else}
@@ -42,7 +37,7 @@ module _ (home : ℕ → ℕ) where
       by rest true same =
           subst (λ (j : ℕ). Replays step (process j) (f j).replayed (of_kernel (home j) es) (g j).replayed) (eqb-true p.0 i same)
           (replay.Pauses (f p.0).replayed given (of_kernel (home p.0) es) (g p.0).replayed pausing.is_given pausing.no_call
-              (subst (λ (z : Acting). Replays step p z.replayed (of_kernel (home p.0) es) (g p.0).replayed) (set-self p (paused given (f p.0)) f) (rest p.0)))
+          (subst (λ (z : Acting). Replays step p z.replayed (of_kernel (home p.0) es) (g p.0).replayed) (set-self p (paused given (f p.0)) f) (rest p.0)))
       by rest false other = subst (λ (z : Acting). Replays step (process i) z.replayed (of_kernel (home i) es) (g i).replayed) (set-other p (paused given (f p.0)) f i other) (rest i)
   alone (Calls n f p given c e es ds g own call asking acts) i = by (alone acts) (nat_eq p.0 i) refl
     where
@@ -54,9 +49,9 @@ module _ (home : ℕ → ℕ) where
       by rest true same =
           subst (λ (j : ℕ). Replays step (process j) (f j).replayed (of_kernel (home j) (e ∷ es)) (g j).replayed) (eqb-true p.0 i same)
           (subst (λ (l : List Entry). Replays step p (f p.0).replayed l (g p.0).replayed) (sym (entries-here home e f p.0 es here))
-              (replay.Asks (f p.0).replayed given c e.entry (of_kernel (home p.0) es) (g p.0).replayed asking.is_given asking.asks call
-                  (subst (λ (z : Acting). Replays step p z.replayed (of_kernel (home p.0) es) (g p.0).replayed)
-                      (heard-here home e (asked_by p given f) p.0 here ∙ ap (heard_by p.0 e.entry) (set-self p (called given (f p.0)) f)) (rest p.0))))
+          (replay.Asks (f p.0).replayed given c e.entry (of_kernel (home p.0) es) (g p.0).replayed asking.is_given asking.asks call
+          (subst (λ (z : Acting). Replays step p z.replayed (of_kernel (home p.0) es) (g p.0).replayed)
+          (heard-here home e (asked_by p given f) p.0 here ∙ ap (heard_by p.0 e.entry) (set-self p (called given (f p.0)) f)) (rest p.0))))
       by rest false other =
           subst (λ (z : Acting). Replays step (process i) z.replayed (of_kernel (home i) (e ∷ es)) (g i).replayed) (set-other p (called given (f p.0)) f i other)
           (passes e es (asked_by p given f) i (g i).replayed (none-else p i c e.entry.what call other) (rest i))

@@ -1,5 +1,5 @@
 -- All processes, when one of them is changed, and when those of a kernel hear an entry.
-use Rattle.std.proofs.Common.{◌≡◌, ℕ, nat_eq, true, false, List, [], ◌∷◌, Option, refl, sym}
+use Rattle.std.proofs.Common.{◌≡◌, ℕ, nat_eq, true, false, List, ◌∷◌, Option, refl, sym}
 use Rattle.std.proofs.lemmas.Bool.{eq-eqb, eqb-true}
 use Rattle.charlotte_calls.specs.declared.calls.Answer.{Answer}
 use Rattle.charlotte_calls.specs.declared.names.Pid.{Pid}

@@ -1,5 +1,5 @@
 -- The programs of a run as its clauses have them: a list, in the order of processes.
-use Rattle.std.proofs.Common.{◌≡◌, ℕ, ◌<◌, List, length, Some, inl, inr, subst, arith}
+use Rattle.std.proofs.Common.{◌≡◌, ℕ, List, length, Some, inl, inr, subst, arith}
 use Rattle.std.specs.Prelude.{slice_get}
 use Rattle.std.proofs.lemmas.Option.{slice_get_cases}
 use Rattle.charlotte_calls.specs.declared.setting.Setting.{Setting}
@@ -27,9 +27,9 @@ module _ {P : Type 0} (s : Setting) (given : List P) (state : P → State) (prog
         elim (slice_get_cases given i).1 [
           | inl there ↦
               (let one = replays i there.0 there.2 in
-                  let at : ReplaysProgram step (start_of s.version (programs i).code (programs i).ends) (process i) (of_kernel (home_of s i) merged) one.0 (steps i)
-                  = subst (λ (x : State). ReplaysProgram step x (process i) (of_kernel (home_of s i) merged) one.0 (steps i)) (started i there.0 there.2) one.1 in
-                  (one.0, at))
+              let at : ReplaysProgram step (start_of s.version (programs i).code (programs i).ends) (process i) (of_kernel (home_of s i) merged) one.0 (steps i)
+              = subst (λ (x : State). ReplaysProgram step x (process i) (of_kernel (home_of s i) merged) one.0 (steps i)) (started i there.0 there.2) one.1 in
+              (one.0, at))
           | inr past ↦ absurd (omega (arith, past.0, within, count))
         ];
   }

@@ -17,10 +17,10 @@ use Rattle.process_run.specs.States.{State}
 use Rattle.program_runs.specs.Replay.{IsGiven, Replayed, Replays, with_entry, with_step}
 use Rattle.program_runs.specs.Replay as replay
 use Rattle.told_answers.specs.Told.{call_of}
-use Rattle.language_links.specs.Acting.{Acting, Acts, Calls, Done, Fleet, IsAsking, IsPausing, Pauses, Rests, Takes, called, deeds_before, done_by, hears_entry, paused, with_acting}
+use Rattle.language_links.specs.Acting.{Acting, Acts, Calls, Done, Fleet, IsAsking, Pauses, Rests, Takes, called, deeds_before, done_by, hears_entry, paused, with_acting}
 use Rattle.request_acts.specs.Acted.{process}
 use Rattle.request_acts.proofs.Callers.{none-of, own-call}
-use Rattle.request_acts.proofs.Fleets.{asked_by, entries-here, entries-not, heard-here, heard-not, heard_by, set-other, set-same, set-self}
+use Rattle.request_acts.proofs.Fleets.{asked_by, entries-here, entries-not, heard-here, heard-not, heard_by, set-other, set-self}
 use Rattle.request_acts.proofs.Replays.{delayed}
 
 -- a call in an entry is made by a process of these, at its kernel
@@ -92,12 +92,12 @@ module _ (home : ℕ → ℕ) (count : ℕ) (ends : ℕ → Replayed State) wher
           asks = ap (λ (z : Replayed State). (step z.state given).0) at ∙ asks ∙ ap (λ (z : Call). next.Ask z) one;
         })
         (subst (λ (u : Replayed State). Replays step p (with_entry p e (with_step step given u)) rest z) (sym at)
-            (subst (λ (d : Entry). Replays step p (with_entry p d (with_step step given x)) rest z) head (subst (λ (l : List Entry). Replays step p (with_entry p d (with_step step given x)) l z) tail r)))
+        (subst (λ (d : Entry). Replays step p (with_entry p d (with_step step given x)) rest z) head (subst (λ (l : List Entry). Replays step p (with_entry p d (with_step step given x)) l z) tail r)))
         (λ i other. refl)
     to-call c e rest call (replay.Pauses x given all y is none r) same f at onward =
         pausing f x given at is none
         (to-call c e rest call r same (with_acting p (paused given (f p.0)) f) (paused-at f x given at)
-            (λ g later asking left others. onward g later asking left (λ i other. others i other ∙ set-other p (paused given (f p.0)) f i other)))
+        (λ g later asking left others. onward g later asking left (λ i other. others i other ∙ set-other p (paused given (f p.0)) f i other)))
 
   -- ---- at the end
 

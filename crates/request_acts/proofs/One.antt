@@ -1,5 +1,5 @@
 -- The deeds in the entries of a run are determined by the entries.
-use Rattle.std.proofs.Common.{◌≡◌, ◌⊎◌, ℕ, ◌+◌, nat_eq, if◌then◌else◌, Bool, true, false, List, [], ◌∷◌, ◌++◌, Option, Some, None, inl, inr, refl, sym, ap, subst, ◌∙◌}
+use Rattle.std.proofs.Common.{◌≡◌, ℕ, ◌+◌, nat_eq, if◌then◌else◌, Bool, true, false, List, [], ◌∷◌, ◌++◌, Option, Some, None, refl, sym, ap, subst, ◌∙◌}
 use Rattle.std.proofs.lemmas.Bool.{eqb-true}
 use Rattle.charlotte_calls.specs.declared.calls.Answer.{Answer}
 use Rattle.charlotte_calls.specs.declared.calls.Call.{Call}
@@ -134,7 +134,7 @@ module _ (home : ℕ → ℕ) where
       by true here =
           subst (λ (x : Acting). AreJoined x (hears_entry home e g i)) (sym (heard-here home e f i here))
           (subst (λ (y : Acting). AreJoined (heard_by i e.entry (f i)) y) (sym (heard-here home e g i here))
-              (record { from = heard_by i e.entry j.from; left = hears i e.entry none j.left; right = hears i e.entry none j.right }))
+          (record { from = heard_by i e.entry j.from; left = hears i e.entry none j.left; right = hears i e.entry none j.right }))
       by false away =
           subst (λ (x : Acting). AreJoined x (hears_entry home e g i)) (sym (heard-not home e f i away))
           (subst (λ (y : Acting). AreJoined (f i) y) (sym (heard-not home e g i away)) j)
@@ -170,12 +170,12 @@ module _ (home : ℕ → ℕ) where
         by true same =
             joined-same (hears_entry home e once i) (hears_entry home e again i)
             (hears-same e once again i
-                (set-same p (called c.given (c.at p.0)) c.at i same ∙ ap (λ (z : Acting). called c.given z) one-state ∙ ap (λ (a : Option Answer). called a (d.at p.0)) one-answer
-                    ∙ sym (set-same p (called d.given (d.at p.0)) d.at i same)))
+            (set-same p (called c.given (c.at p.0)) c.at i same ∙ ap (λ (z : Acting). called c.given z) one-state ∙ ap (λ (a : Option Answer). called a (d.at p.0)) one-answer
+            ∙ sym (set-same p (called d.given (d.at p.0)) d.at i same)))
         by false other =
             hears-joined e once again i (none-else p i c.call e.entry.what c.is_call other)
             (subst (λ (x : Acting). AreJoined x (again i)) (sym (set-other p (called c.given (c.at p.0)) c.at i other))
-                (subst (λ (y : Acting). AreJoined (c.at i) y) (sym (set-other p (called d.given (d.at p.0)) d.at i other)) (there i)))
+            (subst (λ (y : Acting). AreJoined (c.at i) y) (sym (set-other p (called d.given (d.at p.0)) d.at i other)) (there i)))
 
   -- they have the same deeds
   pub record AreOne (ds ds' : List Done) (g g' : Fleet) : Type 0 where

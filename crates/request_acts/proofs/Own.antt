@@ -1,22 +1,21 @@
 -- What one process does in a run is a process run: its calls and its deeds are those of its own steps, in order.
-use Rattle.std.proofs.Common.{◌≡◌, ◌⊎◌, ℕ, zero, suc, ◌+◌, ◌<◌, ◌≤◌, nat_eq, if◌then◌else◌, Bool, true, false, List, [], ◌∷◌, ◌++◌, length, map, filter, Option, Some, None, inl, inr, refl, sym, ap, subst, ◌∙◌, append_assoc, append-nil, arith}
-use Rattle.std.specs.List.{flat_map, range_with_len}
+use Rattle.std.proofs.Common.{◌≡◌, ◌⊎◌, ℕ, zero, suc, ◌+◌, ◌<◌, ◌≤◌, nat_eq, Bool, true, false, List, [], ◌∷◌, ◌++◌, length, map, Option, Some, None, inl, inr, refl, sym, ap, subst, ◌∙◌, append_assoc, append-nil, arith}
+use Rattle.std.specs.List.{range_with_len}
 use Rattle.std.proofs.lemmas.Bool.{eq-eqb, eqb-true}
-use Rattle.charlotte_calls.specs.Program.{state_after, steps}
+use Rattle.charlotte_calls.specs.Program.{steps}
 use Rattle.charlotte_calls.specs.declared.calls.Answer.{Answer}
 use Rattle.charlotte_calls.specs.declared.calls.Call.{Call}
 use Rattle.charlotte_calls.specs.declared.names.Pid.{Pid}
 use Rattle.charlotte_calls.specs.declared.program.Next.{Next}
 use Rattle.charlotte_calls.specs.declared.program.Next.TheVariants as next
 use Rattle.charlotte_calls.specs.declared.setting.Setting.{Setting}
-use Rattle.kernel_entries.specs.declared.entry.Happened.{Happened}
 use Rattle.kernel_entries.specs.declared.entry.Placed.{Placed}
 use Rattle.process_run.specs.Runs.{deeds, deeds_of as run_deeds, step}
-use Rattle.process_run.specs.States.{DeedOn, State}
+use Rattle.process_run.specs.States.{DeedOn}
 use Rattle.program_runs.specs.Replay.{IsNoCall}
 use Rattle.told_answers.specs.Told.{call_of}
 use Rattle.language_links.specs.Acting.{Acting, Acts, Calls, Done, Fleet, IsAsking, IsPausing, Pauses, Program, Rests, Takes, at_end, at_start, called, deeds_before, done_by, hears_entry, paused, with_acting}
-use Rattle.request_acts.specs.Acted.{AreActed, IsRunBy, asked_in, asked_of, calls_by, calls_of, deeds_by, deeds_of, home_of, process}
+use Rattle.request_acts.specs.Acted.{AreActed, IsRunBy, asked_in, asked_of, calls_by, calls_of, deeds_by, home_of, process}
 use Rattle.request_acts.proofs.Callers.{none-else}
 use Rattle.request_acts.proofs.Fleets.{asked_by, heard-here, heard-not, heard_by, set-other, set-self}
 
@@ -109,7 +108,7 @@ module _ (home : ℕ → ℕ) where
       by rest true same =
           subst (λ (j : ℕ). IsOwn j (f j) (e ∷ es) (done_by p n (deeds_before given (f p.0)) ++ ds) (g j)) (eqb-true p.0 i same)
           (with-call p (f p.0) given c n e es ds (g p.0) asking call
-              (subst (λ (z : Acting). IsOwn p.0 z es ds (g p.0)) (set-self p (called given (f p.0)) f) (unheard e es (asked_by p given f) p.0 ds (g p.0) (rest p.0))))
+          (subst (λ (z : Acting). IsOwn p.0 z es ds (g p.0)) (set-self p (called given (f p.0)) f) (unheard e es (asked_by p given f) p.0 ds (g p.0) (rest p.0))))
       by rest false other =
           let r : IsOwn i (f i) es ds (g i) = subst (λ (z : Acting). IsOwn i z es ds (g i)) (set-other p (called given (f p.0)) f i other) (unheard e es (asked_by p given f) i ds (g i) (rest i)) in
           let all : IsOwn i (f i) (e ∷ es) ds (g i) = without-call e es i (f i) ds (g i) (none-else p i c e.entry.what call other) r in
@@ -148,7 +147,7 @@ ends-own n i from (suc count) g above below =
     by true same rest =
         subst (λ (j : ℕ). deeds_by j (at_end n g (map process (range_with_len from (suc count)))) ≡ (g j).since) (eqb-true from i same)
         (by-own (process from) n (g from).since (at_end n g (map process (range_with_len (from + 1) count)))
-            ∙ ap (λ (l : List DeedOn). (g from).since ++ l) (ends-none n from (from + 1) count g (inl (omega arith))) ∙ append-nil (g from).since)
+        ∙ ap (λ (l : List DeedOn). (g from).since ++ l) (ends-none n from (from + 1) count g (inl (omega arith))) ∙ append-nil (g from).since)
     by false other rest =
         by-other (process from) i n (g from).since (at_end n g (map process (range_with_len (from + 1) count))) other
         ∙ rest (λ (e : from ≡ i). (let no : true ≡ false = sym (eq-eqb from i e) ∙ other in absurd cc))

@@ -1,5 +1,5 @@
 -- Steps without a call of one process: there is one way on.
-use Rattle.std.proofs.Common.{◌≡◌, ℕ, ◌+◌, ◌≤◌, Option, Some, None, refl, sym, ap, subst, ◌∙◌, arith}
+use Rattle.std.proofs.Common.{◌≡◌, ℕ, ◌+◌, ◌≤◌, Option, Some, None, sym, ap, subst, ◌∙◌, arith}
 use Rattle.charlotte_calls.specs.declared.calls.Answer.{Answer}
 use Rattle.charlotte_calls.specs.declared.calls.Call.{Call}
 use Rattle.charlotte_calls.specs.declared.program.Next.{Next}
@@ -58,7 +58,7 @@ one-asking a b c d (Then x given y pausing rest) (Stays w) same asking other = a
 one-asking a b c d (Then x given y pausing rest) (Then w given' z pausing' rest') same asking other =
     one-asking a b c d rest rest'
     (ap (λ (v : Acting). paused given' v) same
-        ∙ ap (λ (g : Option Answer). paused g x) (one-given x.replayed.last x.replayed.heard given' given (subst (λ (v : Acting). IsGiven v.replayed.last v.replayed.heard given') same pausing'.is_given) pausing.is_given))
+    ∙ ap (λ (g : Option Answer). paused g x) (one-given x.replayed.last x.replayed.heard given' given (subst (λ (v : Acting). IsGiven v.replayed.last v.replayed.heard given') same pausing'.is_given) pausing.is_given))
     asking other
 
 -- and so are those after equally many steps
@@ -79,5 +79,5 @@ one-after (Then x given y pausing rest) (Stays w) same steps =
 one-after (Then x given y pausing rest) (Then w given' z pausing' rest') same steps =
     one-after rest rest'
     (ap (λ (v : Acting). paused given' v) same
-        ∙ ap (λ (g : Option Answer). paused g x) (one-given x.replayed.last x.replayed.heard given' given (subst (λ (v : Acting). IsGiven v.replayed.last v.replayed.heard given') same pausing'.is_given) pausing.is_given))
+    ∙ ap (λ (g : Option Answer). paused g x) (one-given x.replayed.last x.replayed.heard given' given (subst (λ (v : Acting). IsGiven v.replayed.last v.replayed.heard given') same pausing'.is_given) pausing.is_given))
     steps

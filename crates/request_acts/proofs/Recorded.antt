@@ -1,15 +1,12 @@
 -- In the entries of a run each call is one of a process of the setting, at its kernel.
-use Rattle.std.proofs.Common.{◌≡◌, ℕ, ◌<◌, List, [], ◌∷◌, length, refl, sym, ap, subst, ◌∙◌}
+use Rattle.std.proofs.Common.{◌≡◌, ◌<◌, List, [], ◌∷◌, length, sym, ap, subst, ◌∙◌}
 use Rattle.std.specs.List.{AllByRecursion}
-use Rattle.charlotte_calls.specs.declared.calls.Call.{Call}
 use Rattle.charlotte_calls.specs.declared.names.Pid.{Pid}
 use Rattle.charlotte_calls.specs.declared.setting.Setting.{Setting}
-use Rattle.kernel_entries.specs.declared.entry.Happened.{Happened}
-use Rattle.kernel_entries.specs.declared.entry.Happened.TheVariants.{Asked, Took}
 use Rattle.kernel_entries.specs.declared.entry.Placed.{Placed}
 use Rattle.kernel_step.specs.Start.{home}
 use Rattle.kernel_world.specs.Run.{AreAllowed, IsAllowed, IsRecord}
-use Rattle.kernel_world.specs.World.{Calls, Event, Takes, World, asked_or_took, happens, noted, noted_as, start}
+use Rattle.kernel_world.specs.World.{Calls, Event, Takes, World, happens, noted, noted_as, start}
 use Rattle.request_acts.specs.Acted.{home_of}
 use Rattle.request_acts.proofs.Making.{IsOwn}
 

@@ -1,12 +1,12 @@
 -- A replay of one process whose next entry has no call of it.
-use Rattle.std.proofs.Common.{◌≡◌, List, [], ◌∷◌, Option, Some, None, refl, sym, ap, subst, ◌∙◌}
+use Rattle.std.proofs.Common.{◌≡◌, List, [], ◌∷◌, Option, Some, None, sym, ap, subst, ◌∙◌}
 use Rattle.charlotte_calls.specs.declared.calls.Answer.{Answer}
 use Rattle.charlotte_calls.specs.declared.calls.Call.{Call}
 use Rattle.charlotte_calls.specs.declared.names.Pid.{Pid}
 use Rattle.charlotte_calls.specs.declared.program.Next.{Next}
 use Rattle.charlotte_calls.specs.declared.program.Next.TheVariants as next
 use Rattle.kernel_entries.specs.declared.entry.Entry.{Entry}
-use Rattle.program_runs.specs.Replay.{Asks, IsGiven, Passes, Pauses, Replayed, Replays, Rests, StepOf, with_entry, with_step}
+use Rattle.program_runs.specs.Replay.{Asks, IsGiven, Passes, Pauses, Replayed, Replays, Rests, StepOf, with_entry}
 use Rattle.told_answers.specs.Told.{Answered, Heard, call_of, hears, hears_by}
 
 -- what a step is given is the same before the entry and behind it

@@ -9,7 +9,6 @@ use Rattle.charlotte_calls.specs.declared.calls.ServiceStep.{ServiceStep}
 use Rattle.charlotte_calls.specs.declared.calls.ServiceStep.TheVariants as step
 use Rattle.charlotte_calls.specs.declared.names.EndId.{EndId}
 use Rattle.charlotte_calls.specs.declared.names.Outcome.TheVariants as outcome
-use Rattle.charlotte_calls.specs.declared.names.Pid.{Pid}
 use Rattle.charlotte_calls.specs.declared.names.Way.TheVariants.{Inward}
 use Rattle.kernel_entries.specs.declared.entry.Happened.TheVariants.{Asked}
 use Rattle.kernel_entries.specs.declared.entry.Placed.{Placed}
@@ -130,9 +129,9 @@ unfolding packet_of request_of number_at int_at int_value value_at values_at typ
 going =
     onward 0 fleet None 1 1 (call.Receive far) [] _ refl (record { is_given = refl; asks = refl })
     (onward 1 one None 0 1 asks [] _ refl (record { is_given = refl; asks = refl })
-        (onward 2 two ok 1 2 call.Wait (arrives ∷ []) _ refl (record { is_given = refl; asks = refl })
-            (onward 3 three request_came 1 3 (call.Receive far) [] _ refl (record { is_given = refl; asks = refl })
-                (onward 4 four ok 1 4 answers [] _ refl (record { is_given = refl; asks = refl }) (rests 5 five)))))
+    (onward 2 two ok 1 2 call.Wait (arrives ∷ []) _ refl (record { is_given = refl; asks = refl })
+    (onward 3 three request_came 1 3 (call.Receive far) [] _ refl (record { is_given = refl; asks = refl })
+    (onward 4 four ok 1 4 answers [] _ refl (record { is_given = refl; asks = refl }) (rests 5 five)))))
 
 abbrev deeds : List Done
 deeds =

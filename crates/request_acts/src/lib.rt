@@ -7,9 +7,11 @@
 //! deeds are those of its program's steps (`each_makes_a_process_run`). The deeds are a function of the entries and of how many steps each process made
 //! (`deeds_are_determined`). `AreReplayed`, `AreActed`, `deeds_of` and `IsRunBy` in `specs/Acted.antt`.
 //!
-//! Not proved yet: that the deeds are as `language_links` claims (`ActsAreInOrder` in `specs/Claimed.antt`).
+//! Not proved yet: that the deeds are as `language_links` claims (`ActsAreLinked` in `specs/Claimed.antt`).
 #![tactic(auto)]
 
 mod law;
 
-pub use law::{a_run_has_deeds, deeds_are_determined, each_makes_a_process_run, each_replays_its_program};
+pub use law::{
+    a_run_has_deeds, deeds_are_determined, each_makes_a_process_run, each_replays_its_program,
+};
