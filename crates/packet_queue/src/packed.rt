@@ -1,11 +1,13 @@
-ghost use Rattle.std.specs.Prelude.{◌≡◌, [], IfOk, IfSome, IsTrue};
-ghost use Rattle.charlotte_packets.specs.Packets.{packet_picture, what_picture};
-ghost use Rattle.packet_queue.specs.Queue.{letter_told, packed_picture, what_told};
+ghost use Rattle.std.specs.Prelude.{◌≡◌, ◌+◌, ◌<◌, ◌++◌, ◌∷◌, [], IfOk, IfSome, IsTrue, map};
+ghost use Rattle.std.specs.VecDeque.{deque_capacity, deque_len};
+ghost use Rattle.charlotte_packets.specs.Packets.{what_picture};
+ghost use Rattle.packet_queue.specs.Queue.{letter_told, packed_picture, picture_in, what_told};
 
 use crate::text::Text;
 use charlotte_calls::{EndId, NoMemory};
 use charlotte_packets::{Cargo, Packet, What};
 use std::alloc::Global;
+use std::collections::VecDeque;
 
 /// A message that carries no ends.
 #[derive(Drop)]
@@ -78,26 +80,51 @@ pub(crate) struct Packed {
 }
 
 impl Packed {
-    /// The same packet.
-    pub(crate) fn of(alloc: Global, packet: Packet) -> Result<Packed, NoMemory>
-        ensures { IfOk result (λ p. packed_picture p ≡ packet_picture packet) }
+    /// The packet that is sent to a kernel.
+    #[inline(always)]
+    pub(crate) fn of(alloc: Global, sent: (u8, Packet)) -> Result<Packed, NoMemory>
+        ensures { IfOk result (λ p. packed_picture p ≡ picture_in sent) }
     {
+        let stamp = sent.1.stamp;
+        match light(alloc, &sent.1.what)? {
+            Some(told) => Ok(Packed { stamp, told }),
+            None => Packed::laden(alloc, sent),
+        }
+    }
+
+    /// The same, whole.
+    #[inline(never)]
+    fn laden(alloc: Global, sent: (u8, Packet)) -> Result<Packed, NoMemory>
+        ensures { IfOk result (λ p. packed_picture p ≡ picture_in sent) }
+    {
+        let (_, packet) = sent;
         let stamp = packet.stamp;
-        let told = match light(alloc, &packet.what)? {
-            Some(told) => told,
-            None => Told::Laden(Box::new(alloc, packet)?),
-        };
+        let told = Told::Laden(Box::new(alloc, packet)?);
         Ok(Packed { stamp, told })
     }
 
-    /// The packet, put together again.
-    pub(crate) fn packet(self) -> Packet
-        ensures { packet_picture result ≡ packed_picture self }
+    /// The packet joins others that lie whole, behind them, put together again. Those of which most are sent at once are made where they come to lie.
+    #[inline(never)]
+    pub(crate) fn join(self, to: u8, front: &mut VecDeque<(u8, Packet)>)
+        requires { deque_len front.old < deque_capacity front.old }
+        ensures items { map picture_in front.new.items ≡ map picture_in front.old.items ++ packed_picture self ∷ [] }
+        ensures len { deque_len front.new ≡ deque_len front.old + 1 }
+        ensures capacity { deque_capacity front.new ≡ deque_capacity front.old }
     {
         let Packed { stamp, told } = self;
-        Packet {
-            stamp,
-            what: what_of(told),
+        match told {
+            Told::Gone { to: end, at } => {
+                let what = What::Gone { to: end, at };
+                front.push_back_reserved((to, Packet { stamp, what }));
+            }
+            Told::GoneSeen { to: end } => {
+                let what = What::GoneSeen { to: end };
+                front.push_back_reserved((to, Packet { stamp, what }));
+            }
+            told => {
+                let what = what_of(told);
+                front.push_back_reserved((to, Packet { stamp, what }));
+            }
         }
     }
 }

@@ -84,8 +84,7 @@ impl PacketQueue {
         ensures { OnOk result (self.new ≡ self.old ++ picture_in sent ∷ []) }
     {
         let alloc = *self.behind.allocator();
-        let (_, packet) = sent;
-        let packed = Packed::of(alloc, packet)?;
+        let packed = Packed::of(alloc, sent)?;
         self.behind.reserve(1)?;
         self.behind.push_back_reserved(packed);
         Ok(())
@@ -155,7 +154,7 @@ fn unpack(
     front.reserve(MOST_IN_FRONT)?;
     while front.len() < MOST_IN_FRONT && !behind.is_empty() {
         match behind.pop_front() {
-            Some(packed) => front.push_back_reserved((to, packed.packet())),
+            Some(packed) => packed.join(to, front),
             None => unreachable!(),
         }
     }
