@@ -12,8 +12,7 @@ use Rattle.indexmap.proofs.map.IndexMap.TheSendSync as map_is
 use Rattle.charlotte_calls.proofs.names.EndId.TheSendSync as end_id
 use Rattle.charlotte_packets.proofs.mark.Mark.TheSendSync as mark
 use Rattle.charlotte_packets.proofs.moving.Moving.TheSendSync as moving
-use Rattle.end_table.proofs.entry.Holder.TheSendSync as holder
-use Rattle.end_table.proofs.entry.Inward.TheSendSync as inward
+use Rattle.end_table.proofs.held.Held.TheSendSync as held
 use Rattle.end_table.proofs.messages.Messages.TheSendSync as messages
 use Rattle.end_table.specs.contracts.entry.Sending as Sending
 use Rattle.end_table.specs.contracts.living.Living as Living
@@ -56,7 +55,7 @@ sending-send : IsSend Sending.the_row
 sending-send = let s : IsSend MessageSeen.the_row = seen-send in search sendable depth 20
 
 living-inside : IsSend LivingInside.the_row
-living-inside = declared_send LivingInside.the_type (moving.the_send, (holder.the_send, (sending-send, (inward.the_send, tt))))
+living-inside = declared_send LivingInside.the_type (moving.the_send, (sending-send, (held.the_send, tt)))
 
 living-send : IsSend Living.the_row
 living-send = view_send LivingInside.the_row _ _ _ _ living-inside
