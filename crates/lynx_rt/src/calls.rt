@@ -103,11 +103,11 @@ impl Running {
         requires { AreSendable self.old }
         ensures { Asks (sending self.old.version number on (first_at number self.old)) self.old (next_if result out.new) self.new }
     {
-        if !self.send_call(number, on, out) {
-            return false;
+        if self.send_call(number, on, out) {
+            self.asked = Asked::Send(number);
+            return true;
         }
-        self.asked = Asked::Send(number);
-        true
+        false
     }
 
     fn send_call(&self, number: u32, on: EndId, out: &mut Next) -> bool
