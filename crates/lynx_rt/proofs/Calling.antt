@@ -1,7 +1,6 @@
 -- What is known of a process stays so where a call is due or asked, and where no thread goes on.
 use Rattle.std.proofs.Common.{◌≡◌, ℕ, true, false, Bool, ◌||◌, List, [], ◌∷◌, Option, Some, None, sym, subst}
 use Rattle.std.specs.List.{list_any}
-use Rattle.charlotte_calls.specs.declared.calls.Call.{Call}
 use Rattle.charlotte_calls.specs.declared.names.EndId.{EndId}
 use Rattle.charlotte_calls.specs.declared.program.Next.{Next}
 use Rattle.machine_turns.specs.Turns.{Stop, Stops, AllBlocked, Finished}
@@ -14,16 +13,16 @@ pub settled_process : (s t : State) → t ≡ settles s → IsProcess s → IsPr
 unfolding settles
 settled_process s t is process = subst IsProcess (sym is) process
 
-destroyed_so : (xs : List EndId) (o : Option Call) (s t : State) → DestroysOf xs s o t → IsProcess s → IsProcess t
+destroyed_so : (xs : List EndId) (o : Option Next) (s t : State) → DestroysOf xs s o t → IsProcess s → IsProcess t
 destroyed_so [] o s t destroys process = subst IsProcess (sym destroys.1) process
 destroyed_so (x ∷ xs) o s t destroys process = subst IsProcess (sym destroys.1) process
 
-pub destroyed_process : (o : Option Call) (s u t : State) → u ≡ settles s → DestroysOf u.doomed u o t → IsProcess s → IsProcess t
+pub destroyed_process : (o : Option Next) (s u t : State) → u ≡ settles s → DestroysOf u.doomed u o t → IsProcess s → IsProcess t
 destroyed_process o s u t is destroys process = destroyed_so u.doomed o u t destroys (settled_process s u is process)
 
-pub asked_process : (o : Option Asking) (c : Option Call) (s t : State) → Asks o s c t → IsProcess s → IsProcess t
-asked_process None c s t asks process = subst IsProcess (sym asks.1) process
-asked_process (Some a) c s t asks process = subst IsProcess (sym asks.1) process
+pub asked_process : (o : Option Asking) (n : Option Next) (s t : State) → Asks o s n t → IsProcess s → IsProcess t
+asked_process None n s t asks process = subst IsProcess (sym asks.1) process
+asked_process (Some a) n s t asks process = subst IsProcess (sym asks.1) process
 
 pub finished_process : (stand : Bool) (n : Next) (s t : State) → Leads (finishes stand s) n t → IsProcess s → IsProcess t
 finished_process true n s t leads process = subst IsProcess leads.state process

@@ -7,7 +7,6 @@ use Rattle.lynx_code.specs.Modules.{ArePairs}
 use Rattle.std.proofs.lemmas.List.Sums.{sum_by-cons}
 use Rattle.std.proofs.lemmas.Option.{slice_get-get_or, slice_get_within}
 use Rattle.charlotte_calls.specs.declared.calls.Answer.{Answer}
-use Rattle.charlotte_calls.specs.declared.calls.Call.{Call}
 use Rattle.charlotte_calls.specs.declared.calls.Call.TheVariants as call
 use Rattle.charlotte_calls.specs.declared.names.EndId.{EndId}
 use Rattle.charlotte_calls.specs.declared.program.Next.{Next}
@@ -97,7 +96,7 @@ asked_in : (version n : ℕ) (o : Option Place) (e : EndId) (d : Due) → Some e
 asked_in version n None e d at = let no : Some e ≡ None = at in absurd cc
 asked_in version n (Some p) e d at = asked_by version n p.end p.holding e d at
 
-pub asks_held : (n : ℕ) (e : EndId) (d : Due) (s : State) (c : Option Call) (t : State) → Some e ≡ option_map (λ g. g.end) (held_at n s)
+pub asks_held : (n : ℕ) (e : EndId) (d : Due) (s : State) (c : Option Next) (t : State) → Some e ≡ option_map (λ g. g.end) (held_at n s)
     → Asks (due_by s.version n e (first_at n s) d) s c t → Asks (asking_on s.version n d (held_at n s)) s c t
 asks_held n e d s c t at asks = subst (λ (o : Option Asking). Asks o s c t) (asked_in s.version n (place_at n s.places) e d at) asks
 
@@ -108,42 +107,42 @@ none_asked (Some h) version n d s at = let no : None ≡ Some h.end = at in absu
 pub asks_none : (n : ℕ) (d : Due) (s : State) → None ≡ option_map (λ g. g.end) (held_at n s) → Asks (asking_on s.version n d (held_at n s)) s None s
 asks_none n d s at = none_asked (held_at n s) s.version n d s at
 
-none_sent : (o : Option Message) (version n : ℕ) (x : EndId) (s : State) → None ≡ option_map (λ a. a.call) (sending version n x o) → Asks (sending version n x o) s None s
+none_sent : (o : Option Message) (version n : ℕ) (x : EndId) (s : State) → None ≡ option_map (λ a. next.Ask a.call) (sending version n x o) → Asks (sending version n x o) s None s
 none_sent None version n x s is = (refl, refl)
 none_sent (Some m) version n x s is = absurd (no_some _ is)
 
-pub sends_none : (n : ℕ) (x : EndId) (s : State) → None ≡ option_map (λ a. a.call) (sending s.version n x (first_at n s)) → Asks (sending s.version n x (first_at n s)) s None s
+pub sends_none : (n : ℕ) (x : EndId) (s : State) → None ≡ option_map (λ a. next.Ask a.call) (sending s.version n x (first_at n s)) → Asks (sending s.version n x (first_at n s)) s None s
 sends_none n x s is = none_sent (first_at n s) s.version n x s is
 
-one_sent : (o : Option Message) (version n : ℕ) (x : EndId) (c : Call) (s t : State) → Some c ≡ option_map (λ a. a.call) (sending version n x o)
+one_sent : (o : Option Message) (version n : ℕ) (x : EndId) (c : Next) (s t : State) → Some c ≡ option_map (λ a. next.Ask a.call) (sending version n x o)
     → t ≡ record s { asked = states.Send n } → Asks (sending version n x o) s (Some c) t
 one_sent None version n x c s t is now = absurd (no_some c (sym is))
 one_sent (Some m) version n x c s t is now = (is, now)
 
-pub sends_one : (n : ℕ) (x : EndId) (c : Call) (s t : State) → Some c ≡ option_map (λ a. a.call) (sending s.version n x (first_at n s))
+pub sends_one : (n : ℕ) (x : EndId) (c : Next) (s t : State) → Some c ≡ option_map (λ a. next.Ask a.call) (sending s.version n x (first_at n s))
     → t ≡ record s { asked = states.Send n } → Asks (sending s.version n x (first_at n s)) s (Some c) t
 sends_one n x c s t is now = one_sent (first_at n s) s.version n x c s t is now
 
 -- ---- the first call that is due
 
-destroyed_due : (xs : List EndId) (s t u : State) (c : Call) → s.doomed ≡ xs → DestroysOf xs s (Some c) t → IsDue (first_due xs s) s (Some c) t
+destroyed_due : (xs : List EndId) (s t u : State) (c : Next) → s.doomed ≡ xs → DestroysOf xs s (Some c) t → IsDue (first_due xs s) s (Some c) t
 destroyed_due [] s t u c is first = let no : Some c ≡ None = first.0 in absurd cc
 destroyed_due (x ∷ xs) s t u c is first =
     (first.0, first.1 ∙ ap (λ (ys : List EndId). record s { asked = states.Destroy; doomed = tail ys }) (sym is))
 
-pub due_destroy : (s u t : State) (c : Call) → u ≡ settles s → DestroysOf u.doomed u (Some c) t → IsFirstCall s (Some c) t
+pub due_destroy : (s u t : State) (c : Next) → u ≡ settles s → DestroysOf u.doomed u (Some c) t → IsFirstCall s (Some c) t
 due_destroy s u t c is first = subst (λ (z : State). IsDue (first_due z.doomed z) z (Some c) t) is (destroyed_due u.doomed u t u c refl first)
 
 none_doomed : (xs : List EndId) (s t : State) → DestroysOf xs s None t → (xs ≡ []) × (t ≡ s)
 none_doomed [] s t first = (refl, first.1)
-none_doomed (x ∷ xs) s t first = let no : None ≡ Some (call.Destroy x) = first.0 in absurd cc
+none_doomed (x ∷ xs) s t first = let no : None ≡ Some (next.Ask (call.Destroy x)) = first.0 in absurd cc
 
-due_as : (o : Option Asking) (s t : State) (c : Option Call) → s.doomed ≡ [] → Asks o s c t → IsDue o s c t
+due_as : (o : Option Asking) (s t : State) (c : Option Next) → s.doomed ≡ [] → Asks o s c t → IsDue o s c t
 due_as None s t c none asks = asks
 due_as (Some a) s t c none asks =
     (asks.0, asks.1 ∙ ap (λ (xs : List EndId). record s { asked = a.asked; doomed = xs }) (none ∙ sym (ap tail none)))
 
-due_found : (s u v t : State) (o : Option Asking) (c : Option Call) → u ≡ settles s → DestroysOf u.doomed u None v
+due_found : (s u v t : State) (o : Option Asking) (c : Option Next) → u ≡ settles s → DestroysOf u.doomed u None v
     → first_due [] u ≡ o → Asks o v c t → IsFirstCall s c t
 due_found s u v t o c is first found asks =
     let none = none_doomed u.doomed u v first in
@@ -152,7 +151,7 @@ due_found s u v t o c is first found asks =
     (subst (λ (xs : List EndId). IsDue (first_due xs u) u c t) (sym none.0)
     (subst (λ (x : Option Asking). IsDue x u c t) (sym found) (due_as o u t c none.0 now)))
 
-pub due_end : (s u v t : State) (n : ℕ) (d : Due) (c : Option Call) → u ≡ settles s → IsFirst (room u) u.places (Some (n, d)) → DestroysOf u.doomed u None v
+pub due_end : (s u v t : State) (n : ℕ) (d : Due) (c : Option Next) → u ≡ settles s → IsFirst (room u) u.places (Some (n, d)) → DestroysOf u.doomed u None v
     → Asks (asking_on v.version n d (held_at n v)) v c t → IsFirstCall s c t
 due_end s u v t n d c is found first asks =
     let none = none_doomed u.doomed u v first in
@@ -167,16 +166,16 @@ sendable_now s u v is first may = subst AreSendable (sym ((none_doomed u.doomed 
 
 -- ---- where a call is due it is asked, and else the process goes on
 
-asked_first : (o : Option Asking) (u t : State) (more : State → Did) (c : Call) → IsDue o u (Some c) t → Leads (asks_first o u more) (next.Ask c) t
+asked_first : (o : Option Asking) (u t : State) (more : State → Did) (c : Next) → IsDue o u (Some c) t → Leads (asks_first o u more) c t
 asked_first None u t more c is = let no : Some c ≡ None = is.0 in absurd cc
-asked_first (Some a) u t more c is = record { next = ap next.Ask (sym (some_is c a.call is.0)); state = sym is.1 }
+asked_first (Some a) u t more c is = record { next = sym (some_is c (next.Ask a.call) is.0); state = sym is.1 }
 
-pub called : (s t : State) (more : State → Did) (c : Call) → IsFirstCall s (Some c) t → Leads (calls s more) (next.Ask c) t
+pub called : (s t : State) (more : State → Did) (c : Next) → IsFirstCall s (Some c) t → Leads (calls s more) c t
 called s t more c is = asked_first (first_due (settles s).doomed (settles s)) (settles s) t more c is
 
 none_first : (o : Option Asking) (u t : State) → IsDue o u None t → (o ≡ None) × (t ≡ u)
 none_first None u t is = (refl, is.1)
-none_first (Some a) u t is = let no : None ≡ Some a.call = is.0 in absurd cc
+none_first (Some a) u t is = let no : None ≡ Some (next.Ask a.call) = is.0 in absurd cc
 
 none_due : (s t : State) → IsFirstCall s None t → (first_due (settles s).doomed (settles s) ≡ None) × (t ≡ settles s)
 none_due s t is = none_first (first_due (settles s).doomed (settles s)) (settles s) t is
@@ -336,7 +335,7 @@ stopped_as stop left s u b more same ran =
 
 -- ---- rounds
 
-pub round_called : (k fuel : ℕ) (s t : State) (c : Call) → IsFirstCall s (Some c) t → Leads (goes_on k fuel s) (next.Ask c) t
+pub round_called : (k fuel : ℕ) (s t : State) (c : Next) → IsFirstCall s (Some c) t → Leads (goes_on k fuel s) c t
 round_called zero fuel s t c is = called s t (λ z. unless_over z.over z pauses) c is
 round_called (suc k) fuel s t c is =
     called s t (λ z. unless_over z.over z (λ u. stopped (machine_run fuel u) u (λ left d. with_deeds d.deeds (goes_on k left d.state)))) c is

@@ -1,9 +1,9 @@
 -- What a process does in a step, as code tells it: the next, and the state after it.
 use Rattle.std.specs.Prelude.{◌≡◌, ℕ, suc, Bool, true, false, if◌then◌else◌, List, [], ◌∷◌, Option, None, Some, Result, Ok, Err, slice_get, ⊤}
-use Rattle.charlotte_calls.specs.declared.calls.Call.{Call}
 use Rattle.charlotte_calls.specs.declared.calls.Call.TheVariants as call
 use Rattle.charlotte_calls.specs.declared.names.Way.TheVariants.{Inward}
 use Rattle.charlotte_calls.specs.declared.program.Next.{Next}
+use Rattle.charlotte_calls.specs.declared.program.Next.TheVariants as next
 use Rattle.charlotte_calls.specs.declared.names.EndId.{EndId}
 use Rattle.lynx_packets.specs.declared.packet.RtPacket.{RtPacket}
 use Rattle.code_shapes.specs.Shapes.{PartTypes, opened_by}
@@ -51,6 +51,11 @@ Begins n entry vs s t =
 
 -- ---- calls
 
+-- what is done next, where this says that something is
+abbrev pub next_if : Bool → Next → Option Next
+next_if true n = Some n
+next_if false n = None
+
 abbrev pub first_in : Option Kept → Option Message
 first_in None = None
 first_in (Some k) = head k.queue
@@ -60,9 +65,9 @@ abbrev pub first_at : ℕ → State → Option Message
 first_at n s = first_in (kept_at n s.places)
 
 -- this was asked, and nothing else changed
-abbrev pub Asks : Option Asking → State → Option Call → State → Type 0
-Asks None s call t = (call ≡ None) × (t ≡ s)
-Asks (Some a) s call t = (call ≡ Some a.call) × (t ≡ record s { asked = a.asked })
+abbrev pub Asks : Option Asking → State → Option Next → State → Type 0
+Asks None s n t = (n ≡ None) × (t ≡ s)
+Asks (Some a) s n t = (n ≡ Some (next.Ask a.call)) × (t ≡ record s { asked = a.asked })
 
 -- what is asked for a call of this kind that is due on the end of this number
 abbrev pub due_by : ℕ → ℕ → EndId → Option Message → Due → Option Asking
@@ -72,18 +77,18 @@ due_by version n x first due.Receive = Some (record { asked = Receive n; call = 
 due_by version n x first due.Cancel = Some (record { asked = Cancel n; call = call.Cancel x Inward })
 
 -- the first of these ends is destroyed
-abbrev pub DestroysOf : List EndId → State → Option Call → State → Type 0
-DestroysOf [] s c t = (c ≡ None) × (t ≡ s)
-DestroysOf (x ∷ xs) s c t = (c ≡ Some (call.Destroy x)) × (t ≡ record s { asked = Destroy; doomed = xs })
+abbrev pub DestroysOf : List EndId → State → Option Next → State → Type 0
+DestroysOf [] s n t = (n ≡ None) × (t ≡ s)
+DestroysOf (x ∷ xs) s n t = (n ≡ Some (next.Ask (call.Destroy x))) × (t ≡ record s { asked = Destroy; doomed = xs })
 
 -- the first call that is due was asked, or none is
-abbrev pub IsDue : Option Asking → State → Option Call → State → Type 0
-IsDue None s c t = (c ≡ None) × (t ≡ s)
-IsDue (Some a) s c t = (c ≡ Some a.call) × (t ≡ record s { asked = a.asked; doomed = tail s.doomed })
+abbrev pub IsDue : Option Asking → State → Option Next → State → Type 0
+IsDue None s n t = (n ≡ None) × (t ≡ s)
+IsDue (Some a) s n t = (n ≡ Some (next.Ask a.call)) × (t ≡ record s { asked = a.asked; doomed = tail s.doomed })
 
 -- of the ends as they are once each allow that is due is queued
-abbrev pub IsFirstCall : State → Option Call → State → Type 0
-IsFirstCall s call t = IsDue (first_due (settles s).doomed (settles s)) (settles s) call t
+abbrev pub IsFirstCall : State → Option Next → State → Type 0
+IsFirstCall s n t = IsDue (first_due (settles s).doomed (settles s)) (settles s) n t
 
 -- ---- steps
 

@@ -12,7 +12,8 @@ ghost use Rattle.process_ends.specs.Found.{IsFirst};
 ghost use Rattle.process_sound.specs.May.{AnyState, AreSendable, MayCall};
 ghost use Rattle.lynx_rt.specs.Kept.{IsProcess};
 ghost use Rattle.lynx_rt.specs.May.{MayAskFor, MayComeTo};
-ghost use Rattle.lynx_rt.specs.Steps.{Asks, DestroysOf, IsFirstCall, Leads, StopsSo, due_by, first_at};
+ghost use Rattle.lynx_rt.specs.Steps.{Asks, DestroysOf, IsFirstCall, Leads, StopsSo, due_by, first_at, next_if};
+ghost use Rattle.charlotte_calls.specs.declared.program.Next.TheVariants as next;
 
 use crate::asked::Asked;
 use crate::process::Running;
@@ -23,32 +24,33 @@ use lynx_packets::encode;
 use typing_rules::ShortText;
 
 impl Running {
-    /// The first call that is due: a Destroy of an end that is doomed, or that of the first end for which one is due.
-    pub(crate) fn due_call(&mut self) -> Result<Option<Call>, NoMemory>
+    /// The first call that is due, if one is, is what is done next: a Destroy of an end that is doomed, or that of the first end for which one is due.
+    pub(crate) fn due_call(&mut self, out: &mut Next) -> Result<bool, NoMemory>
         requires process { IsProcess self.old }
         requires sendable { AreSendable (settles self.old) }
-        ensures asked { IfOk result (λ call. IsFirstCall self.old call self.new) }
+        ensures asked { IfOk result (λ is_due. IsFirstCall self.old (next_if is_due out.new) self.new) }
         ensures process { OnOk result (IsProcess self.new) }
     {
         let due = self.settle()?;
-        let destroy = self.next_destroy();
-        match destroy {
-            Some(call) => return Ok(Some(call)),
-            None => {}
+        if self.next_destroy(out) {
+            return Ok(true);
         }
         match due {
-            Some((number, due)) => Ok(self.call_of(number, due)),
-            None => Ok(None),
+            Some((number, due)) => Ok(self.call_of(number, due, out)),
+            None => Ok(false),
         }
     }
 
     /// A Destroy of the first end that is doomed, if there is one.
-    fn next_destroy(&mut self) -> Option<Call>
-        ensures { DestroysOf self.old.doomed self.old result self.new }
+    fn next_destroy(&mut self, out: &mut Next) -> bool
+        ensures { DestroysOf self.old.doomed self.old (next_if result out.new) self.new }
     {
-        let on = self.doomed.take()?;
+        let Some(on) = self.doomed.take() else {
+            return false;
+        };
         self.asked = Asked::Destroy;
-        Some(Call::Destroy { on })
+        *out = Next::Ask(Call::Destroy { on });
+        true
     }
 
     /// Each allow that is due is queued. Gives the first end on which a call is due.
@@ -62,123 +64,141 @@ impl Running {
     }
 
     /// The call that is due on an end, if the end is held.
-    fn call_of(&mut self, number: u32, due: Due) -> Option<Call>
+    fn call_of(&mut self, number: u32, due: Due, out: &mut Next) -> bool
         requires { AreSendable self.old }
-        ensures { Asks (asking_on self.old.version number due (held_at number self.old)) self.old result self.new }
+        ensures { Asks (asking_on self.old.version number due (held_at number self.old)) self.old (next_if result out.new) self.new }
     {
         let Some(on) = self.held_end(number) else {
-            return None;
+            return false;
         };
-        self.call_on(number, on, due)
+        self.call_on(number, on, due, out)
     }
 
     /// The call that is due on the end of this name.
-    fn call_on(&mut self, number: u32, on: EndId, due: Due) -> Option<Call>
+    fn call_on(&mut self, number: u32, on: EndId, due: Due, out: &mut Next) -> bool
         requires { AreSendable self.old }
-        ensures { Asks (due_by self.old.version number on (first_at number self.old) due) self.old result self.new }
+        ensures { Asks (due_by self.old.version number on (first_at number self.old) due) self.old (next_if result out.new) self.new }
     {
         match due {
-            Due::Nothing => None,
-            Due::Send => self.send_of(number, on),
+            Due::Nothing => false,
+            Due::Send => self.send_of(number, on, out),
             Due::Receive => {
                 self.asked = Asked::Receive(number);
-                Some(Call::Receive { on })
+                *out = Next::Ask(Call::Receive { on });
+                true
             }
             Due::Cancel => {
                 self.asked = Asked::Cancel(number);
-                Some(Call::Cancel {
+                *out = Next::Ask(Call::Cancel {
                     on,
                     way: Way::Inward,
-                })
+                });
+                true
             }
         }
     }
 
     /// A Send of the first packet that is queued on the end.
-    fn send_of(&mut self, number: u32, on: EndId) -> Option<Call>
+    fn send_of(&mut self, number: u32, on: EndId, out: &mut Next) -> bool
         requires { AreSendable self.old }
-        ensures { Asks (sending self.old.version number on (first_at number self.old)) self.old result self.new }
+        ensures { Asks (sending self.old.version number on (first_at number self.old)) self.old (next_if result out.new) self.new }
     {
-        let Some(call) = self.send_call(number, on) else {
-            return None;
-        };
-        self.asked = Asked::Send(number);
-        Some(call)
+        if self.send_call(number, on, out) {
+            self.asked = Asked::Send(number);
+            return true;
+        }
+        false
     }
 
-    fn send_call(&self, number: u32, on: EndId) -> Option<Call>
+    fn send_call(&self, number: u32, on: EndId, out: &mut Next) -> bool
         requires { AreSendable self.now }
-        ensures { result ≡ option_map (λ a. a.call) (sending self.now.version number on (first_at number self.now)) }
+        ensures { next_if result out.new ≡ option_map (λ a. next.Ask a.call) (sending self.now.version number on (first_at number self.now)) }
     {
         let Some(kept) = self.places.kept(number) else {
-            return None;
+            return false;
         };
         let Some(message) = kept.queue.first() else {
-            return None;
+            return false;
         };
         let enclose = message.enclosed(self.version);
         let Ok(bytes) = encode(&message.packet) else {
             unreachable!();
         };
-        Some(Call::Send { on, bytes, enclose })
+        *out = Next::Ask(Call::Send { on, bytes, enclose });
+        true
     }
 
-    /// What comes of a stop of the machine. None where it goes on after an action.
-    pub(crate) fn stopped(&mut self, stop: Stop) -> Result<Option<Next>, NoMemory>
+    /// What comes of a stop of the machine. False where it goes on after an action.
+    pub(crate) fn stopped(&mut self, stop: Stop, out: &mut Next) -> Result<bool, NoMemory>
         requires process { IsProcess self.old }
         requires may { MayComeTo (stop_of stop) self.old }
-        ensures stopped { IfOk result (λ next. StopsSo (stop_of stop) self.old next self.new) }
+        ensures stopped { IfOk result (λ is_next. StopsSo (stop_of stop) self.old (next_if is_next out.new) self.new) }
         ensures process { OnOk result (IsProcess self.new) }
     {
         match stop {
-            Stop::Act { thread, action } => self.asks_for(thread, action),
-            Stop::Spent => Ok(Some(self.pause())),
-            Stop::AllBlocked => Ok(Some(self.rests(true)?)),
-            Stop::Finished => Ok(Some(self.rests(false)?)),
+            Stop::Act { thread, action } => self.asks_for(thread, action, out),
+            Stop::Spent => {
+                self.pause(out);
+                Ok(true)
+            }
+            Stop::AllBlocked => {
+                self.rests(true, out)?;
+                Ok(true)
+            }
+            Stop::Finished => {
+                self.rests(false, out)?;
+                Ok(true)
+            }
         }
     }
 
-    fn asks_for(&mut self, thread: u8, action: Action) -> Result<Option<Next>, NoMemory>
+    fn asks_for(&mut self, thread: u8, action: Action, out: &mut Next) -> Result<bool, NoMemory>
         requires process { IsProcess self.old }
         requires may { MayAskFor thread (action_of action) self.old }
-        ensures stopped { IfOk result (λ next. StopsSo (Act thread (action_of action)) self.old next self.new) }
+        ensures stopped { IfOk result (λ is_next. StopsSo (Act thread (action_of action)) self.old (next_if is_next out.new) self.new) }
         ensures process { OnOk result (IsProcess self.new) }
     {
         match action {
-            Action::New => Ok(Some(self.ask(Asked::Make(thread), Call::Make))),
+            Action::New => {
+                self.ask(Asked::Make(thread), Call::Make, out);
+                Ok(true)
+            }
             Action::Write(text) => {
                 let bytes = bytes_of(&text);
-                Ok(Some(self.ask(Asked::Print(thread), Call::Print { bytes })))
+                self.ask(Asked::Print(thread), Call::Print { bytes }, out);
+                Ok(true)
             }
             action => {
                 self.act(thread, action)?;
-                Ok(None)
+                Ok(false)
             }
         }
     }
 
     /// No thread goes on. Where threads stand it waits.
-    fn rests(&mut self, stand: bool) -> Result<Next, NoMemory>
+    fn rests(&mut self, stand: bool, out: &mut Next) -> Result<(), NoMemory>
         requires process { IsProcess self.old }
         requires may { MayCall AnyState self.old }
-        ensures rests { IfOk result (λ next. Leads (calls self.old (λ now. finishes (stand || list_any (λ p. is_in_use p.holding) now.places) now)) next self.new) }
+        ensures rests { OnOk result (Leads (calls self.old (λ now. finishes (stand || list_any (λ p. is_in_use p.holding) now.places) now)) out.new self.new) }
         ensures process { OnOk result (IsProcess self.new) }
     {
-        let due = self.due_call()?;
-        match due {
-            Some(call) => Ok(Next::Ask(call)),
-            None => Ok(self.finish(stand)),
+        let is_due = self.due_call(out)?;
+        if is_due {
+            return Ok(());
         }
+        self.finish(stand, out);
+        Ok(())
     }
 
     /// Where threads stand, or an end is in use, it waits.
-    fn finish(&mut self, stand: bool) -> Next
-        ensures { Leads (finishes (stand || list_any (λ p. is_in_use p.holding) self.old.places) self.old) result self.new }
+    fn finish(&mut self, stand: bool, out: &mut Next)
+        ensures { Leads (finishes (stand || list_any (λ p. is_in_use p.holding) self.old.places) self.old) out.new self.new }
     {
         if self.is_alive(stand) {
-            return self.ask(Asked::Wait, Call::Wait);
+            self.ask(Asked::Wait, Call::Wait, out);
+            return;
         }
-        self.exit()
+        self.exit(out);
     }
 
     /// Whether threads stand, or an end is in use.

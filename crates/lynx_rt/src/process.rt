@@ -20,7 +20,7 @@ ghost use Rattle.lynx_rt.specs.Kept.{IsProcess};
 ghost use Rattle.lynx_rt.specs.Changes.{taken_so};
 ghost use Rattle.lynx_rt.specs.May.{IsStoppedFor};
 ghost use Rattle.lynx_rt.specs.Seen.{asked_of};
-ghost use Rattle.lynx_rt.specs.Steps.{IsRound, Leads, is_exit};
+ghost use Rattle.lynx_rt.specs.Steps.{IsRound, Leads, is_exit, next_if};
 ghost use Rattle.charlotte_calls.specs.declared.calls.Call.TheVariants as call;
 ghost use Rattle.charlotte_calls.specs.declared.program.Next.TheVariants as next;
 
@@ -92,61 +92,62 @@ impl Running {
     }
 
     /// The next step, with the answer to the call of the last one.
-    pub(crate) fn step(&mut self, answer: Option<Answer>) -> Result<Next, NoMemory>
+    pub(crate) fn step(&mut self, answer: Option<Answer>, out: &mut Next) -> Result<(), NoMemory>
         requires process { IsProcess self.old }
         requires may { MayStep self.old answer }
-        ensures step { IfOk result (λ next. ◌≡◌ {A = Next × State} (next, self.new) (step self.old answer)) }
+        ensures step { OnOk result (◌≡◌ {A = Next × State} (out.new, self.new) (step self.old answer)) }
         ensures process { OnOk result (IsProcess self.new) }
     {
         if is_exit(self.asked) {
-            return Ok(Next::Ended);
+            *out = Next::Ended;
+            return Ok(());
         }
         let asked = self.asked;
         self.hear_answer(asked, answer)?;
-        self.slice()
+        self.slice(out)
     }
 
     /// The process goes on, until it asks a call, pauses or ends.
-    fn slice(&mut self) -> Result<Next, NoMemory>
+    fn slice(&mut self, out: &mut Next) -> Result<(), NoMemory>
         requires process { IsProcess self.old }
         requires may { MayGoOn (most_actions self.old) most_instructions self.old }
-        ensures slice { IfOk result (λ next. Leads (slice self.old) next self.new) }
+        ensures slice { OnOk result (Leads (slice self.old) out.new self.new) }
         ensures process { OnOk result (IsProcess self.new) }
     {
         let mut actions = u128::from(self.opened.count()) + 2 * u128::from(MOST_INSTRUCTIONS);
         let mut fuel = MOST_INSTRUCTIONS;
         'rounds: loop {
-            let (next, left) = self.round(actions, fuel)?;
-            match next {
-                Some(next) => return Ok(next),
-                None => {}
+            let (is_next, left) = self.round(actions, fuel, out)?;
+            if is_next {
+                return Ok(());
             }
             fuel = left;
             actions -= 1;
         }
     }
 
-    /// A call is asked, or the process goes on to its next action, if there may be one. Gives the fuel that is left.
-    fn round(&mut self, actions: u128, fuel: u32) -> Result<(Option<Next>, u32), NoMemory>
+    /// A call is asked, or the process goes on to its next action, if there may be one. Gives whether it was asked, and the fuel that is left.
+    fn round(&mut self, actions: u128, fuel: u32, out: &mut Next) -> Result<(bool, u32), NoMemory>
         requires process { IsProcess self.old }
         requires may { MayGoOn actions fuel self.old }
-        ensures round { IfOk result (λ r. IsRound actions fuel self.old r.0 r.1 self.new) }
+        ensures round { IfOk result (λ r. IsRound actions fuel self.old (next_if r.0 out.new) r.1 self.new) }
         ensures process { OnOk result (IsProcess self.new) }
     {
-        let due = self.due_call()?;
-        match due {
-            Some(call) => return Ok((Some(Next::Ask(call)), fuel)),
-            None => {}
+        let is_due = self.due_call(out)?;
+        if is_due {
+            return Ok((true, fuel));
         }
         if self.over {
-            return Ok((Some(self.exit()), fuel));
+            self.exit(out);
+            return Ok((true, fuel));
         }
         if actions == 0 {
-            return Ok((Some(self.pause()), fuel));
+            self.pause(out);
+            return Ok((true, fuel));
         }
         let (stop, left) = self.run(fuel)?;
-        let next = self.stopped(stop)?;
-        Ok((next, left))
+        let is_next = self.stopped(stop, out)?;
+        Ok((is_next, left))
     }
 
     /// The machine goes on, with so much fuel. Gives what is left of it.
@@ -241,28 +242,28 @@ impl Running {
         Ok(())
     }
 
-    pub(crate) fn ask(&mut self, asked: Asked, call: Call) -> Next
+    pub(crate) fn ask(&mut self, asked: Asked, call: Call, out: &mut Next)
         ensures asked { self.new ≡ record self.old { asked = asked_of asked } }
-        ensures next { result ≡ next.Ask call }
+        ensures next { out.new ≡ next.Ask call }
     {
         self.asked = asked;
-        Next::Ask(call)
+        *out = Next::Ask(call);
     }
 
-    pub(crate) fn pause(&mut self) -> Next
+    pub(crate) fn pause(&mut self, out: &mut Next)
         ensures asked { self.new ≡ record self.old { asked = Nothing } }
-        ensures next { result ≡ next.Pause }
+        ensures next { out.new ≡ next.Pause }
     {
         self.asked = Asked::Nothing;
-        Next::Pause
+        *out = Next::Pause;
     }
 
-    pub(crate) fn exit(&mut self) -> Next
+    pub(crate) fn exit(&mut self, out: &mut Next)
         ensures asked { self.new ≡ record self.old { asked = process.Exit; over = true } }
-        ensures next { result ≡ next.Ask call.Exit }
+        ensures next { out.new ≡ next.Ask call.Exit }
     {
         self.over = true;
-        self.ask(Asked::Exit, Call::Exit)
+        self.ask(Asked::Exit, Call::Exit, out);
     }
 }
 

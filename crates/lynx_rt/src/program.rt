@@ -68,8 +68,9 @@ impl Program for LynxProcess {
     fn next(&mut self, _alloc: Global, answer: Option<Answer>) -> Result<Next, NoMemory> {
         told(&answer);
         // Where the step is not made, nothing is known of the process any more, and it makes none.
-        self.last = Some(NextSeen::of(&Next::Ended));
-        let next = self.process.step(answer)?;
+        let mut next = Next::Ended;
+        self.last = Some(NextSeen::of(&next));
+        self.process.step(answer, &mut next)?;
         self.last = Some(NextSeen::of(&next));
         Ok(next)
     }

@@ -6,13 +6,13 @@ step-requires-clause-may c = may_go_on _ c.args.self.now c.args.answer c.self.vi
 
 pub invariant_of-self-2 : goal.invariant_of-self-2
 invariant_of-self-2 c =
-    goes_on _ c.args.self.now c.args.answer c.self.view_is c.requires c.self.invariant c.in_ok-next.next c.step.new.self c.in_ok-next.ensures.step
+    goes_on _ c.args.self.now c.args.answer c.self.view_is c.requires c.self.invariant c.step.new.out c.step.new.self c.in_ok-step.ensures.step
     c.of-2.result.next c.of-2.ensures c.told.ensures
 
 pub returns-clause-limit : goal.returns-clause-limit
 returns-clause-limit c =
-    fits _ c.args.self.now c.args.answer c.self.view_is c.requires c.self.invariant c.in_ok-next.next c.step.new.self c.in_ok-next.ensures.step
+    fits _ c.args.self.now c.args.answer c.self.view_is c.requires c.self.invariant c.step.new.out c.step.new.self c.in_ok-step.ensures.step
 
 pub returns-clause-version : goal.returns-clause-version
 returns-clause-version c =
-    keeps _ c.args.self.now c.args.answer c.self.view_is c.requires c.self.invariant c.in_ok-next.next c.step.new.self c.in_ok-next.ensures.step
+    keeps _ c.args.self.now c.args.answer c.self.view_is c.requires c.self.invariant c.step.new.out c.step.new.self c.in_ok-step.ensures.step
