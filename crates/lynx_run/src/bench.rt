@@ -6,7 +6,7 @@ ghost use Rattle.lynx_run.specs.Bench.{Benches, FindsSummary};
 
 use lynx_command::{End, Failure, Lines, Output, end_with};
 use lynx_outside::{Sink, Status};
-use run_counts::summary;
+use run_counts::summary_of;
 use std::alloc::Global;
 
 /// Performs the script of a seed, and puts its summary on out, one put a line: the nine lines are the counts over the run. It reads no file.
@@ -27,7 +27,7 @@ pub fn bench_seed<O: Sink, E: Sink>(
 fn find_summary(alloc: Global, seed: u32) -> Result<Output<Lines>, Failure>
     ensures { FindsSummary seed (found_of (λ lines. lines) result) }
 {
-    let lines = summary(alloc, seed)?;
+    let lines = summary_of(alloc, seed)?;
     Ok(Output {
         text: Lines::of(lines),
         end: End::Done,

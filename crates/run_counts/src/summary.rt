@@ -11,7 +11,7 @@ use script_run::{Performance, perform};
 use std::alloc::Global;
 
 /// The summary of a seed: its nine lines, which are the counts over the run of its script.
-pub fn summary(alloc: Global, seed: u32) -> Result<Vec<Vec<u8>>, NoMemory>
+pub fn summary_of(alloc: Global, seed: u32) -> Result<Vec<Vec<u8>>, NoMemory>
     ensures { IfOk result (λ lines. IsSummary seed (map (λ l. l.items) lines.items)) }
 {
     let Script { setting, lines } = make_script(alloc, seed)?;
