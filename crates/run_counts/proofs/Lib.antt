@@ -1,1 +1,1 @@
-mod Counted
+pub mod Counted
