@@ -1,5 +1,5 @@
 -- The lines of entries, and notes, are counted as the entries and the notes are.
-use Rattle.std.proofs.Common.{◌≡◌, ℕ, ◌+◌, ◌-◌, Bool, true, false, not, List, [], ◌∷◌, ◌++◌, All, length, length-append, map, take, codes, Ok, refl, sym, ap, ◌∙◌, arith}
+use Rattle.std.proofs.Common.{◌≡◌, ℕ, ◌+◌, ◌-◌, suc, Bool, true, false, not, List, [], ◌∷◌, ◌++◌, All, length, length-append, map, take, codes, Ok, refl, sym, ap, ◌∙◌, arith}
 use Rattle.std.proofs.Math.Seq.{take-append_seam}
 use Rattle.std.specs.List.{flat_map}
 use Rattle.charlotte_calls.specs.Ranges.{IsU8}
@@ -24,19 +24,50 @@ use Rattle.transcript_reading.specs.declared.line.LineKind.{LineKind}
 use Rattle.transcript_reading.specs.declared.line.LineKind.TheVariants as kind
 use Rattle.transcript_reading.specs.declared.line.ServiceLine.{ServiceLine}
 
+-- ---- numbers
+
+zero_plus : (n : ℕ) → n ≡ 0 + n
+zero_plus n = omega arith
+
+plus_zero : (n : ℕ) → n ≡ n + 0
+plus_zero n = omega arith
+
+one_plus : (n : ℕ) → 1 + n ≡ suc n
+one_plus n = omega arith
+
+plus_assoc : (a b c : ℕ) → a + b + c ≡ a + (b + c)
+plus_assoc a b c = omega arith
+
+only_first : (n a b c : ℕ) → n ≡ 0 + (a + b + c) → b ≡ 0 → c ≡ 0 → n ≡ a
+only_first n a b c is no_b no_c = omega (arith, is, no_b, no_c)
+
+only_second : (n a b c : ℕ) → n ≡ 0 + (a + b + c) → a ≡ 0 → c ≡ 0 → n ≡ b
+only_second n a b c is no_a no_c = omega (arith, is, no_a, no_c)
+
+only_third : (n a b c : ℕ) → n ≡ 0 + (a + b + c) → a ≡ 0 → b ≡ 0 → n ≡ c
+only_third n a b c is no_a no_b = omega (arith, is, no_a, no_b)
+
+-- of a first entry with its lines, and the others
+add_up : (whole first rest head below heads steps all : ℕ) → whole ≡ first + rest → first ≡ head + below → rest ≡ heads + steps → all ≡ below + steps → whole ≡ (head + heads) + all
+add_up whole first rest head below heads steps all a b c d = omega (arith, a, b, c, d)
+
+-- of the lines of a header, of entries with the last line, and of notes
+all_up : (whole lines entries notes e n : ℕ) → whole ≡ 0 + (0 + lines) + notes → lines ≡ entries + (0 + 0) → entries ≡ e → notes ≡ n → whole ≡ e + n
+all_up whole lines entries notes e n a b c d = omega (arith, a, b, c, d)
+
 -- ---- how many are so
 
 how_many-append : {A : Type 0} (is : A → Bool) (xs ys : List A) → how_many is (xs ++ ys) ≡ how_many is xs + how_many is ys
-how_many-append is [] ys = refl
-how_many-append is (x ∷ xs) ys = ap (λ n. bit (is x) + n) (how_many-append is xs ys) ∙ omega arith
+how_many-append is [] ys = zero_plus (how_many is ys)
+how_many-append is (x ∷ xs) ys = ap (λ n. bit (is x) + n) (how_many-append is xs ys) ∙ sym (plus_assoc (bit (is x)) (how_many is xs) (how_many is ys))
 
 how_many-none : {A : Type 0} (xs : List A) → how_many (λ x. false) xs ≡ 0
 how_many-none [] = refl
-how_many-none (x ∷ xs) = how_many-none xs
+how_many-none (x ∷ xs) = ap (λ n. 0 + n) (how_many-none xs)
 
 how_many-all : {A : Type 0} (xs : List A) → how_many (λ x. true) xs ≡ length xs
 how_many-all [] = refl
-how_many-all (x ∷ xs) = ap (λ n. 1 + n) (how_many-all xs)
+how_many-all (x ∷ xs) = ap (λ n. 1 + n) (how_many-all xs) ∙ one_plus (length xs)
 
 -- ---- lines that were read
 
@@ -71,8 +102,8 @@ bare_kinds v ps = kind.First v ∷ kind.Kernels 0 ∷ flat_map entry_kinds ps ++
 bare_read : (v : ℕ) (ps : List Placed) → IsU8 v → All IsPlacedInRange ps → All (IsShown v) ps → AreLinesOf v (bare_lines v ps) (bare_kinds v ps)
 bare_read v ps small in_range shown = (
   record { text = codes "transcript " ++ number_text v; whole = refl; free = first_free v small; reads = first_reads v v small },
-  kernels_line v 0 (omega arith),
-  lines_append v (flat_map entry_lines ps) (line (last_text Quiet) ∷ []) (flat_map entry_kinds ps) (kind.End Quiet ∷ []) (entry_lines_of v ps in_range shown) (last_line v Quiet tt, tt),
+  (kernels_line v 0 (omega arith),
+  lines_append v (flat_map entry_lines ps) (line (last_text Quiet) ∷ []) (flat_map entry_kinds ps) (kind.End Quiet ∷ []) (entry_lines_of v ps in_range shown) (last_line v Quiet tt, tt)),
 )
 
 with_kinds-append : (ks js : List LineKind) (c : Counts) → with_kinds (ks ++ js) c ≡ with_kinds js (with_kinds ks c)
@@ -81,8 +112,8 @@ with_kinds-append (k ∷ ks) js c = with_kinds-append ks js (with_line c k)
 
 -- one of the counts
 grown : (of : Counts → ℕ) (is : LineKind → Bool) → ((c : Counts) (k : LineKind) → of (with_line c k) ≡ of c + bit (is k)) → (ks : List LineKind) (c : Counts) → of (with_kinds ks c) ≡ of c + how_many is ks
-grown of is more [] c = omega arith
-grown of is more (k ∷ ks) c = grown of is more ks (with_line c k) ∙ ap (λ n. n + how_many is ks) (more c k) ∙ omega arith
+grown of is more [] c = plus_zero (of c)
+grown of is more (k ∷ ks) c = grown of is more ks (with_line c k) ∙ ap (λ n. n + how_many is ks) (more c k) ∙ plus_assoc (of c) (bit (is k)) (how_many is ks)
 
 module _ (entry : Bool → Bool) (step : ServiceLine → Bool) (note : ScriptNote → Bool) where
   abbrev is_so : LineKind → Bool
@@ -99,12 +130,10 @@ module _ (entry : Bool → Bool) (step : ServiceLine → Bool) (note : ScriptNot
   of_entries : (ps : List Placed) → how_many is_so (flat_map entry_kinds ps) ≡ how_many (λ p. entry (is_call p.entry.what)) ps + how_many step (service_lines ps)
   of_entries [] = refl
   of_entries (p ∷ ps) =
-      let here = ap bit (of_happened p.entry.stamp p.kernel p.entry.what) in
       let below = of_steps p.entry.steps in
-      let rest = of_entries ps in
-      let lines = how_many-append is_so (entry_kinds p) (flat_map entry_kinds ps) in
-      let steps = how_many-append step (map shown_step p.entry.steps) (service_lines ps) in
-      omega (arith, here, below, rest, lines, steps)
+      add_up _ _ _ _ _ _ _ _ (how_many-append is_so (entry_kinds p) (flat_map entry_kinds ps))
+      (ap (λ n. n + how_many is_so (map (λ s. kind.Service (shown_step s)) p.entry.steps)) (ap bit (of_happened p.entry.stamp p.kernel p.entry.what)) ∙ ap (λ n. bit (entry (is_call p.entry.what)) + n) below)
+      (of_entries ps) (how_many-append step (map shown_step p.entry.steps) (service_lines ps))
 
   of_notes : (ns : List ScriptNote) → how_many is_so (map (λ n. kind.Note n) ns) ≡ how_many note ns
   of_notes [] = refl
@@ -113,11 +142,7 @@ module _ (entry : Bool → Bool) (step : ServiceLine → Bool) (note : ScriptNot
   of_all : (v : ℕ) (ps : List Placed) (ns : List ScriptNote) → how_many is_so (bare_kinds v ps ++ map (λ n. kind.Note n) ns)
       ≡ how_many (λ p. entry (is_call p.entry.what)) ps + how_many step (service_lines ps) + how_many note ns
   of_all v ps ns =
-      let parts = how_many-append is_so (bare_kinds v ps) (map (λ n. kind.Note n) ns) in
-      let last = how_many-append is_so (flat_map entry_kinds ps) (kind.End Quiet ∷ []) in
-      let entries = of_entries ps in
-      let notes = of_notes ns in
-      omega (arith, parts, last, entries, notes)
+      all_up _ _ _ _ _ _ (how_many-append is_so (bare_kinds v ps) (map (λ n. kind.Note n) ns)) (how_many-append is_so (flat_map entry_kinds ps) (kind.End Quiet ∷ [])) (of_entries ps) (of_notes ns)
 
   -- one of the counts, where each line that is so adds one
   one_count : (of : Counts → ℕ) → ((c : Counts) (k : LineKind) → of (with_line c k) ≡ of c + bit (is_so k)) → (v : ℕ) (ps : List Placed) (ns : List ScriptNote)
@@ -140,19 +165,20 @@ module _ (v : ℕ) (ps : List Placed) (ns : List ScriptNote) where
   none_of_notes = how_many-none ns
 
   calls : counted.calls ≡ how_many (λ p. is_call p.entry.what) ps
-  calls = let n = one_count (λ b. b) no_step no_note (λ c. c.calls) (λ c k. refl) v ps ns in omega (arith, n, none_of_steps, none_of_notes)
+  calls = only_first _ _ _ _ (one_count (λ b. b) no_step no_note (λ c. c.calls) (λ c k. refl) v ps ns) none_of_steps none_of_notes
 
   events : counted.events ≡ length ps
-  events = let n = one_count (λ b. true) no_step no_note (λ c. c.events) (λ c k. refl) v ps ns in let all = how_many-all ps in omega (arith, n, all, none_of_steps, none_of_notes)
+  events = only_first _ _ _ _ (one_count (λ b. true) no_step no_note (λ c. c.events) (λ c k. refl) v ps ns) none_of_steps none_of_notes ∙ how_many-all ps
 
   waits : counted.waits ≡ how_many (λ n. n.waits) ns
-  waits = let n = one_count no_entry no_step (λ n. n.waits) (λ c. c.waits) (λ c k. refl) v ps ns in omega (arith, n, none_of_entries, none_of_steps)
+  waits = only_third _ _ _ _ (one_count no_entry no_step (λ n. n.waits) (λ c. c.waits) (λ c k. refl) v ps ns) none_of_entries none_of_steps
 
   nothing : counted.nothing ≡ how_many (λ n. not n.waits) ns
-  nothing = let n = one_count no_entry no_step (λ n. not n.waits) (λ c. c.nothing) (λ c k. refl) v ps ns in omega (arith, n, none_of_entries, none_of_steps)
+  nothing = only_third _ _ _ _ (one_count no_entry no_step (λ n. not n.waits) (λ c. c.nothing) (λ c k. refl) v ps ns) none_of_entries none_of_steps
 
   of_step : (of : Counts → ℕ) (step : ServiceLine → Bool) → ((c : Counts) (k : LineKind) → of (with_line c k) ≡ of c + bit (one_of no_entry step no_note k)) → of no_counts ≡ 0 → of counted ≡ how_many step (service_lines ps)
-  of_step of step more zero = let n = one_count no_entry step no_note of more v ps ns in omega (arith, n, zero, none_of_entries, none_of_notes)
+  of_step of step more zero =
+      only_second _ _ _ _ (one_count no_entry step no_note of more v ps ns ∙ ap (λ z. z + (how_many (λ p. no_entry (is_call p.entry.what)) ps + how_many step (service_lines ps) + how_many no_note ns)) zero) none_of_entries none_of_notes
 
   all_counted : counted ≡ counts_of ps ns
   all_counted = λ i. record {

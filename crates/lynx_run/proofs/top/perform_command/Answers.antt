@@ -1,4 +1,4 @@
--- A command that is not built fails by its name.
+-- A command that is not built fails by its name. `bench` reads no file, so the files are as before.
 use Rattle.std.proofs.Common.{◌≡◌, ℕ, Bool, String, Some, List, refl}
 use Rattle.std.specs.declared.alloc.Global.{Global}
 use Rattle.lynx_command.proofs.Courses.{refused_course, refused}
@@ -28,3 +28,8 @@ returns-in_default g c =
       not_built c.args.command.now told.0 c.in_default.not-Drive c.in_default.not-Check c.in_default.not-Code c.in_default.not-Audit c.in_default.not-Run c.in_default.not-Bench,
       refused Unbuilt name _ _ _ _ _ _ (rw c.command_name.ensures at told.1) told.2,
     )
+
+pub returns-in-Bench : goal.returns-in-Bench
+returns-in-Bench g c =
+    let benches = c.bench_seed.ensures in
+    (benches.0, rw c.in-Bench.is benches.1, benches.2 (g.F.Files.state c.args.files.now))
