@@ -1,5 +1,5 @@
 -- The lines of entries, and notes, are counted as the entries and the notes are.
-use Rattle.std.proofs.Common.{◌≡◌, ℕ, ◌+◌, ◌-◌, suc, Bool, true, false, not, List, [], ◌∷◌, ◌++◌, All, length, length-append, map, take, codes, Ok, refl, sym, ap, ◌∙◌, arith}
+use Rattle.std.proofs.Common.{◌≡◌, ℕ, ◌+◌, ◌-◌, suc, Bool, true, false, not, List, [], ◌∷◌, ◌++◌, All, append-nil, length, length-append, map, take, codes, Ok, refl, sym, subst, ap, ◌∙◌, arith}
 use Rattle.std.proofs.Math.Seq.{take-append_seam}
 use Rattle.std.specs.List.{flat_map}
 use Rattle.charlotte_calls.specs.Ranges.{IsU8}
@@ -103,7 +103,8 @@ bare_read : (v : ℕ) (ps : List Placed) → IsU8 v → All IsPlacedInRange ps �
 bare_read v ps small in_range shown = (
   record { text = codes "transcript " ++ number_text v; whole = refl; free = first_free v small; reads = first_reads v v small },
   (kernels_line v 0 (omega arith),
-  lines_append v (flat_map entry_lines ps) (line (last_text Quiet) ∷ []) (flat_map entry_kinds ps) (kind.End Quiet ∷ []) (entry_lines_of v ps in_range shown) (last_line v Quiet tt, tt)),
+  subst (λ (lines : List (List ℕ)). AreLinesOf v (lines ++ line (last_text Quiet) ∷ []) (flat_map entry_kinds ps ++ kind.End Quiet ∷ [])) (sym (append-nil (flat_map entry_lines ps)))
+  (lines_append v (flat_map entry_lines ps) (line (last_text Quiet) ∷ []) (flat_map entry_kinds ps) (kind.End Quiet ∷ []) (entry_lines_of v ps in_range shown) (last_line v Quiet tt, tt))),
 )
 
 with_kinds-append : (ks js : List LineKind) (c : Counts) → with_kinds (ks ++ js) c ≡ with_kinds js (with_kinds ks c)
