@@ -19,6 +19,8 @@ const PLAN: &[u8] = b"kernels 1\nprocess 0 on 0 runs m\n";
 
 const QUIET: &str = "transcript 1\nkernels 1\nprocess 0 on 0\n1 k0 p0 exit\n. exit p0\nquiet\n";
 
+const SUMMARY: &str = "seed 1\ncalls 74\nwaits 4926\nnothing 4985\nevents 105\nrefused 25\nmatches 6\ntakes 6\ncompletes 6\n";
+
 const SPENT: &str = "transcript 1\nkernels 1\nprocess 0 on 0\n1 k0 p0 exit\n. exit p0\nspent 0\n";
 
 /// Room for every text of these tests.
@@ -66,13 +68,22 @@ type Row = (
 const ROWS: &[Row] = &[
     ("help", (0, 0, 0), 4, Status::Usage, "", "lynx: usage\n"),
     ("help", (0, 0, 1), 4, Status::WriteFault, "", ""),
+    ("bench 1", (1, 0, 1), AMPLE, Status::Done, SUMMARY, ""),
     (
         "bench 1",
+        (0, 2, 0),
+        AMPLE,
+        Status::WriteFault,
+        "seed 1\n",
+        "",
+    ),
+    (
+        "snapshot p 0",
         (0, 0, 0),
         4,
         Status::Refused,
         "",
-        "lynx: bench: not built\n",
+        "lynx: snapshot: not built\n",
     ),
     // the plan is read, and then its module
     (

@@ -28,8 +28,9 @@ use Rattle.lynx_plan.specs.declared.fault.PlanFault.{PlanFault}
 use Rattle.lynx_plan.specs.declared.fault.PlanFault.TheVariants as plan
 use Rattle.lynx_plan.specs.declared.script.Script.{Script}
 use Rattle.lynx_run.specs.Audit.{Audits}
+use Rattle.lynx_run.specs.Bench.{Benches, FindsSummary}
 use Rattle.lynx_run.specs.Commands.{Answers, Finds, Performs, file_of}
-use Rattle.lynx_run.specs.Complete.{AreObeyed, DoesRun, HasFileOf, HasNoFault, IsComplete, IsCompleteRun, IsObeyed, Obeys, StaysBelow}
+use Rattle.lynx_run.specs.Complete.{AreObeyed, DoesRun, HasFileOf, HasNoFault, IsComplete, IsCompleteBench, IsCompleteRun, IsObeyed, Obeys, StaysBelow}
 use Rattle.lynx_run.specs.Drive.{Drives}
 use Rattle.lynx_run.specs.Run.{FindsRun, RunsLoaded, RunsPlan}
 use Rattle.lynx_command.specs.Failing.{FailsAs}
@@ -245,6 +246,21 @@ told-complete command course ended old new files told has answers took none =
     let all : All (Reads files) course.reads = subst (λ (held : Option Listing). IfSome held (λ fs. All (Reads fs) course.reads)) told took.reads.told in
     let one : Reads files (read has.name has.most finds.0) = All-head (Reads files) _ [] (subst (All (Reads files)) finds.1 all) in
     answered command has.name has.most course ended old new has.file took none finds.0 finds.1 finds.2 (told-read command files has finds.0 one)
+
+-- ---- a seed
+
+bench-whole : (seed : ℕ) (course : Course) (ended : Status) (old new : Outside) → Took course ended old new → HasNoFault old new → (found : Found) → course.found ≡ found → FindsSummary seed found → IsCompleteBench seed course ended
+bench-whole seed course ended old new took none (Ok output) e is =
+    elim (text-ends old new course.name output ended course.outs course.errs none took.outs took.errs is.1 (subst (λ f. Ends course.name f ended course.outs course.errs) e took.ends)) [
+      | inl whole ↦ inl (output.lines, is.0, whole.1, whole.2, whole.0)
+      | inr short ↦ inr short
+    ]
+bench-whole seed course ended old new took none (Err f) e is =
+    let told : Ends course.name (Err failure.NoMemory) ended course.outs course.errs = subst (λ found. Ends course.name found ended course.outs course.errs) (e ∙ ap Err is) took.ends in
+    inr (told-memory course.name old.err new.err ended course.errs none.err took.errs told.1)
+
+pub bench-complete : (seed : ℕ) (course : Course) (ended : Status) (old new : Outside) → Benches seed course → Took course ended old new → HasNoFault old new → IsCompleteBench seed course ended
+bench-complete seed course ended old new benches took none = bench-whole seed course ended old new took none course.found refl benches.finds
 
 -- ---- a plan
 

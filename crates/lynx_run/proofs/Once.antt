@@ -1,4 +1,4 @@
--- A script has one performance, and so `drive` puts one text of it.
+-- A script has one performance, and so `drive` puts one text of it, and `bench` one of its seed.
 use Rattle.std.proofs.Common.{◌≡◌, ℕ, List, [], ◌∷◌, ◌++◌, Result, Ok, refl, sym, ap, subst, ◌∙◌}
 use Rattle.charlotte_calls.specs.declared.calls.Call.{Call}
 use Rattle.charlotte_calls.specs.declared.names.Pid.{Pid}
@@ -19,7 +19,10 @@ use Rattle.lynx_plan.specs.declared.script.Script.{Script}
 use Rattle.lynx_plan.specs.declared.script.ScriptCall.{ScriptCall}
 use Rattle.lynx_plan.specs.declared.script.ScriptCall.TheVariants.{Ask, Take, Settle}
 use Rattle.lynx_plan.specs.declared.script.ScriptLine.{ScriptLine}
+use Rattle.lynx_plan.specs.Seeded.{script_of_seed}
 use Rattle.lynx_run.specs.Drive.{IsDriven}
+use Rattle.run_counts.specs.Counts.{counts_of}
+use Rattle.run_counts.specs.Summary.{IsSummary, summary_lines}
 use Rattle.script_run.specs.Performing.{Asks, Does, IsCall, IsLast, IsNoted, IsPerformance, Performs, TakesFirst}
 use Rattle.transcript_lines.specs.Transcript.{transcript_lines}
 use Rattle.transcript_lines.specs.declared.last.Last.{Last}
@@ -98,6 +101,12 @@ performance-once s lines merged others notes noted_b last ending a b =
       same.notes,
       last-once (after (start s) b.named) last ending (subst (λ (w : World). IsLast w last) same.worlds a.last_world) b.last_world,
     )
+
+pub summed-once : (seed : ℕ) (lines others : List (List ℕ)) → IsSummary seed lines → IsSummary seed others → lines ≡ others
+summed-once seed lines others a b =
+    let script = script_of_seed seed in
+    let same = performance-once script.setting script.lines a.merged b.merged a.notes b.notes a.last b.last a.performed b.performed in
+    a.told ∙ ap (λ m. summary_lines seed (counts_of m a.notes)) same.0 ∙ ap (λ n. summary_lines seed (counts_of b.merged n)) same.1 ∙ sym b.told
 
 one-script : (read : Result Script PlanFault) (a b : Script) → read ≡ Ok a → read ≡ Ok b → a ≡ b
 one-script read a b x y = cc

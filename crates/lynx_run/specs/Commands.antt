@@ -5,6 +5,7 @@ use Rattle.lynx_command.specs.Found.{Found}
 use Rattle.lynx_command.specs.Limits.{most_bytes, most_transcript_bytes}
 use Rattle.lynx_command.specs.declared.failure.Failure.TheVariants.{Usage, Unbuilt}
 use Rattle.lynx_run.specs.Audit.{Audits}
+use Rattle.lynx_run.specs.Bench.{Benches}
 use Rattle.lynx_run.specs.Check.{Checks}
 use Rattle.lynx_run.specs.Code.{Codes}
 use Rattle.lynx_run.specs.Drive.{Drives}
@@ -22,7 +23,7 @@ command_name (Bench seed) = codes "bench"
 command_name (Audit file) = codes "audit"
 command_name (Snapshot plan at serial) = codes "snapshot"
 
--- the one file that a command reads, and the most bytes of it; `run` reads more than one, and a command that is not built yet none
+-- the one file that a command reads, and the most bytes of it; `run` reads more than one, `bench` and a command that is not built yet none
 abbrev pub file_of : Command → Option (List ℕ × ℕ)
 file_of (Drive file) = Some (string_bytes file, most_bytes)
 file_of (Check file) = Some (string_bytes file, most_bytes)
@@ -47,4 +48,5 @@ Performs command None course = IsRefusedAs Unbuilt (command_name command) course
 abbrev pub Answers : Option Command → Course → Type 0
 Answers None course = IsRefusedAs Usage [] course
 Answers (Some (Run plan serial turns)) course = RunsPlan (string_bytes plan) turns course
+Answers (Some (Bench seed)) course = Benches seed course
 Answers (Some command) course = Performs command (file_of command) course

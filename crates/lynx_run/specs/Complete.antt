@@ -22,6 +22,7 @@ use Rattle.lynx_run.specs.Commands.{Finds, file_of}
 use Rattle.lynx_run.specs.Run.{IsRunOfPlan}
 use Rattle.lynx_source.specs.Sources.{IsCheckedAs}
 use Rattle.lynx_tree.specs.Trees.{ModuleTree}
+use Rattle.run_counts.specs.Summary.{IsSummary}
 use Rattle.transcript_audit.specs.Audit.{IsAudited}
 use Rattle.transcript_lines.specs.declared.last.Last.{Last}
 
@@ -81,6 +82,13 @@ pub record HasPutAll (command : Command) (course : Course) : Type 0 where
 -- the status is 0 and the whole text was put, or memory ran out
 abbrev pub IsComplete : Command → Course → Status → Type 0
 IsComplete command course ended = ((ended ≡ status.Done) × HasPutAll command course) ⊎ (ended ≡ status.NoMemory)
+
+-- ---- the seed of `bench`
+
+-- the status is 0 and out got the whole summary, or memory ran out
+abbrev pub IsCompleteBench : ℕ → Course → Status → Type 0
+IsCompleteBench seed course ended =
+    ((lines : List (List ℕ)) × IsSummary seed lines × (course.outs ≡ map taken lines) × (course.errs ≡ []) × (ended ≡ status.Done)) ⊎ (ended ≡ status.NoMemory)
 
 -- ---- the plan of `run`
 

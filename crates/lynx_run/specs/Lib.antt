@@ -1,4 +1,5 @@
 pub mod Audit
+pub mod Bench
 pub mod Check
 pub mod Code
 pub mod Commands

@@ -7,10 +7,12 @@ ghost use Rattle.lynx_command.specs.Found.{OutputLines};
 ghost use Rattle.lynx_load.specs.Loading.{Loading};
 ghost use Rattle.lynx_outside.specs.Files.{Listing};
 ghost use Rattle.lynx_outside.specs.declared.status.Status.{Status as AStatus};
+ghost use Rattle.lynx_run.specs.Bench.{Benches};
 ghost use Rattle.lynx_run.specs.Commands.{Answers, file_of};
-ghost use Rattle.lynx_run.specs.Complete.{AreObeyed, HasFileOf, HasNoFault, IsComplete, IsCompleteRun};
+ghost use Rattle.lynx_run.specs.Complete.{AreObeyed, HasFileOf, HasNoFault, IsComplete, IsCompleteBench, IsCompleteRun};
 ghost use Rattle.lynx_run.specs.Drive.{IsDriven};
 ghost use Rattle.lynx_run.specs.Run.{IsRunOfPlan, RunsPlan};
+ghost use Rattle.run_counts.specs.Summary.{IsSummary};
 ghost use Rattle.transcript_audit.specs.Audit.{IsAudited};
 ghost use Rattle.transcript_lines.specs.declared.last.Last.{Last};
 
@@ -29,9 +31,14 @@ pub fn driven_is_one_text()
     ensures { (bytes : List ℕ) (lines others : List (List ℕ)) → IsDriven bytes lines → IsDriven bytes others → lines ≡ others }
 {}
 
+/// `bench` has one text to put of a seed.
+pub fn benched_is_one_text()
+    ensures { (seed : ℕ) (lines others : List (List ℕ)) → IsSummary seed lines → IsSummary seed others → lines ≡ others }
+{}
+
 /// Where nothing outside fails, the file of a command that reads one file is there and within its limit, and its bytes obey the command's rules, the
 /// status is 0 and out gets the whole text, or memory ran out. Of files that tell what they hold this is said by that, else by what the
-/// read answered.
+/// read answered. Of `bench`, which reads no file, it holds of any seed.
 pub fn each_command_is_complete()
     ensures by_files { (command : ACommand) (course : Course) (ended : AStatus) (old new : Outside) (files : Listing)
         → old.files.contents ≡ Some files → HasFileOf command files → Answers (Some command) course → Took course ended old new
@@ -39,6 +46,8 @@ pub fn each_command_is_complete()
     ensures by_answer { (command : ACommand) (name : List ℕ) (most : ℕ) (course : Course) (ended : AStatus) (old new : Outside)
         → file_of command ≡ Some (name, most) → Answers (Some command) course → Took course ended old new → HasNoFault old new
         → AreObeyed command course.reads → IsComplete command course ended }
+    ensures by_seed { (seed : ℕ) (course : Course) (ended : AStatus) (old new : Outside) → Benches seed course → Took course ended old new
+        → HasNoFault old new → IsCompleteBench seed course ended }
 {}
 
 /// Where nothing outside fails, out gets the whole text of the run of a plan that is loaded, and the status is 0 or that of used turns; or the

@@ -19,6 +19,7 @@
 #![tactic(auto)]
 
 mod audit;
+mod bench;
 mod check;
 mod code;
 mod drive;
@@ -27,12 +28,13 @@ mod run;
 mod top;
 
 pub use audit::{AuditCommand, audit_file};
+pub use bench::bench_seed;
 pub use check::{CheckCommand, check_file};
 pub use code::{CodeCommand, code_file};
 pub use drive::{DriveCommand, drive_file};
 pub use law::{
-    driven_is_audited, driven_is_one_text, each_command_is_complete, each_run_is_complete,
-    ran_is_audited,
+    benched_is_one_text, driven_is_audited, driven_is_one_text, each_command_is_complete,
+    each_run_is_complete, ran_is_audited,
 };
 pub use run::{Driver, run_file};
 pub use top::{fail, lynx};

@@ -8,6 +8,7 @@ ghost use Rattle.lynx_run.specs.Commands.{command_name, Answers};
 ghost use Rattle.command_words.specs.Words.{IsWithinTurns, command_of};
 
 use crate::audit::audit_file;
+use crate::bench::bench_seed;
 use crate::check::check_file;
 use crate::code::code_file;
 use crate::drive::drive_file;
@@ -24,7 +25,8 @@ use std::thread::Threads;
 /// are not of the form of a command are told so. A command that is not built yet is refused by its name. What `drive` prints is one lawful
 /// run of the link service (`Drives` in `specs/Drive.antt`, by the law `every_record_is_lawful` of `theorem`), and so is what `audit` accepts
 /// (`Audits` in `specs/Audit.antt`). What `code` prints is the listing of the code of the module (`Codes` in `specs/Code.antt`). What `run` prints
-/// is the transcript of one run of the programs of the plan (`RunsPlan` in `specs/Run.antt`).
+/// is the transcript of one run of the programs of the plan (`RunsPlan` in `specs/Run.antt`). What `bench` prints is the summary of the seed
+/// (`Benches` in `specs/Bench.antt`).
 pub fn lynx<R: Threads + Sync, F: Files, O: Sink, E: Sink, G: Gate + Sync>(
     rt: &R,
     alloc: Global,
@@ -78,6 +80,7 @@ fn perform_command<R: Threads + Sync, F: Files, O: Sink, E: Sink, G: Gate + Sync
         Command::Check { file } => check_file(alloc, file.as_str(), files, out, err),
         Command::Code { file } => code_file(alloc, file.as_str(), files, out, err),
         Command::Audit { file } => audit_file(alloc, file.as_str(), files, out, err),
+        Command::Bench { seed } => bench_seed(alloc, *seed, out, err),
         Command::Run {
             plan,
             serial,
