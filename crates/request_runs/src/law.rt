@@ -1,0 +1,37 @@
+ghost use Rattle.std.specs.Prelude.{◌≡◌, ◌||◌, false, ℕ, List, [], ◌∷◌, ◌++◌};
+ghost use Rattle.charlotte_calls.specs.Setting.{IsValid};
+ghost use Rattle.charlotte_calls.specs.declared.calls.ServiceStep.{ServiceStep as AStep};
+ghost use Rattle.charlotte_calls.specs.declared.names.EndId.{EndId};
+ghost use Rattle.charlotte_calls.specs.declared.setting.Setting.{Setting as ASetting};
+ghost use Rattle.service_step.specs.Run.{IsServiceRun};
+ghost use Rattle.service_step.specs.State.{State};
+ghost use Rattle.service_step.specs.declared.state.Message.{Message};
+ghost use Rattle.service_streams.specs.Streams.{cancels_send};
+ghost use Rattle.request_runs.specs.Law.{AreInOrder, HasAllEnds};
+ghost use Rattle.request_runs.specs.Sides.{Courses, Pair, is_destroyed, new_pair};
+ghost use Rattle.request_runs.specs.Ways.{HasWay, IsNextWay, IsWay};
+
+/// After any events at a link that was just made, requests were accepted at most once and in the order in which they were issued, and each connect that
+/// went on has the reply to its own request.
+pub fn events_go_in_order()
+    ensures { (version : ℕ) (p : Pair) → Courses version new_pair p → AreInOrder p }
+{}
+
+/// As long as the service destroyed neither end, each end of a request or reply that is under way is in one place: in a packet that is queued or on its
+/// way, with the request or reply in part, or with the connect.
+pub fn events_keep_ends()
+    ensures { (version : ℕ) (p : Pair) → Courses version new_pair p → is_destroyed p.near.standing || is_destroyed p.far.standing ≡ false → HasAllEnds p }
+{}
+
+/// In every run of the service what was sent on an end, after the messages of which the owners of its opposite were told, is a list, which may be empty:
+/// what is on its way there.
+pub fn ways_are_lists()
+    ensures { (s : ASetting) (run : List (AStep × State)) → IsValid s → IsServiceRun s run → (e : EndId) → HasWay e run }
+{}
+
+/// A step of the service that cancels no send takes from that list the message of which it tells, which is the first, and adds the one that it sends behind
+/// all others. So no other step changes it.
+pub fn ways_go_on()
+    ensures { (e : EndId) (past : List (AStep × State)) (made : AStep) (t : State) (before behind : List Message) → cancels_send e made ≡ false
+        → IsWay e past before → IsWay e (past ++ (made, t) ∷ []) behind → IsNextWay e made before behind }
+{}
