@@ -72,7 +72,7 @@ falls_tell f s = (
 
 -- ---- where an end stands
 
-same_end : (x y : EndId) → end_eq x y ≡ true → x ≡ y
+pub same_end : (x y : EndId) → end_eq x y ≡ true → x ≡ y
 unfolding end_eq
 same_end x y e = search rules
 
@@ -111,13 +111,13 @@ found i x (p ∷ ps) =
         (inr (record { at = suc f.at; is = (let e : n ≡ suc (suc i + f.at) = f.is in omega arith); place = f.place; there = f.there; same = f.same })))
         rest
 
-none_at : (p : Place) → ◌≡◌ {A = Option Place} None (Some p) → ⊥
+pub none_at : (p : Place) → ◌≡◌ {A = Option Place} None (Some p) → ⊥
 none_at p e = cc
 
-same_place : (p q : Place) → ◌≡◌ {A = Option Place} (Some p) (Some q) → p ≡ q
+pub same_place : (p q : Place) → ◌≡◌ {A = Option Place} (Some p) (Some q) → p ≡ q
 same_place p q e = cc
 
-numbered : (x : EndId) (ps : List Place) (p : Place) → place_at (number_of x ps) ps ≡ Some p → p.end ≡ x
+pub numbered : (x : EndId) (ps : List Place) (p : Place) → place_at (number_of x ps) ps ≡ Some p → p.end ≡ x
 numbered x ps p at =
     ⊎_elim
     (λ (none : number_from 1 x ps ≡ 0). absurd (none_at p (sym (ap (λ (n : ℕ). place_at n ps) none) ∙ at)))
@@ -191,7 +191,7 @@ destroyed_told h xs s there =
     tell_on s gone (falls (fallen h.kept) (dooms (h.end ∷ []) gone)) [] [] one two
 
 -- where this is kept for a place, it is
-kept_index : (i : ℕ) (p : Place) (g : Holding) (ps : List Place) → slice_get ps i ≡ Some p → slice_get (set_holding i g (Some p) ps) i ≡ Some (record p { holding = g })
+pub kept_index : (i : ℕ) (p : Place) (g : Holding) (ps : List Place) → slice_get ps i ≡ Some p → slice_get (set_holding i g (Some p) ps) i ≡ Some (record p { holding = g })
 kept_index zero p g [] e = absurd (none_at p e)
 kept_index (suc i) p g [] e = absurd (none_at p e)
 kept_index zero p g (q ∷ ps) e = refl

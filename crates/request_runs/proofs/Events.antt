@@ -20,6 +20,7 @@ use Rattle.request_law.proofs.Ends.{run_ends}
 use Rattle.request_law.proofs.Run.{run_is_exchanged}
 use Rattle.request_runs.specs.Law.{AreInOrder, HasAllEnds}
 use Rattle.request_runs.specs.Sides.{Courses, Destroyed, Destroys, Dies, Does, Drops, Events, Flipped, Free, Goes, Hears, Held, Holds, IsAs, IsComing, IsKept, IsOver, LetsGo, Loses, Lost, Pair, Passes, Rests, Sends, Standing, comes, did, flipped, hearing, is_destroyed, new_pair, sending, stands}
+use Rattle.request_runs.proofs.Whole.{AreWhole, StandsWhole, event_whole}
 
 module _ (version : ℕ) where
   -- the link goes on by some steps, and then stands so
@@ -282,28 +283,40 @@ module _ (version : ℕ) where
 
   -- ---- all events
 
-  pub event_follows : (p q : Pair) (l : Link) → Events version p q → IsAs p l → Follows q l
-  event_follows p q l (Does h k r held may) is = does k p l held is h may
-  event_follows p q l (Sends m rest k r held queue) is = sends k p l held is m rest queue
-  event_follows p q l (Hears room m rest k r held first readable) is = hears_one k p l held is room m rest first readable
-  event_follows p q l (Dies k r held gone) is = dies_now k p l held is gone
-  event_follows p q l (LetsGo k r held rests whole none) is = lets_go k p l held is rests whole none
-  event_follows p q l (Holds r free) is = holds p l is free
-  event_follows p q l (Loses r lives) is = loses p l is lives
-  event_follows p q l (Destroys r) is = destroys p l is
-  event_follows p q l (Drops ms r gone h) is = drops p l is ms gone h
-  event_follows p q l (Passes ms r over) is = passes p l is ms over
-  event_follows p q l (Flipped r t event) is = at_other q l (event_follows (flipped p) (flipped q) (turned l) event (turn p l is))
+  -- on a dead end no request is in part
+  whole_of : (k : Kept) (s : Standing) → s ≡ Held k → StandsWhole s → (k.dead ≡ false → k.request ≡ None) → k.request ≡ None
+  whole_of k s held stands whole = by_dead k.dead refl
+    where
+      by_dead : (b : Bool) → k.dead ≡ b → k.request ≡ None
+      by_dead true e = subst (λ (t : Standing). StandsWhole t) held stands e
+      by_dead false e = whole e
+
+  pub event_follows : (p q : Pair) (l : Link) → Events version p q → AreWhole p → IsAs p l → Follows q l
+  event_follows p q l (Does h k r held may) are is = does k p l held is h may
+  event_follows p q l (Sends m rest k r held queue) are is = sends k p l held is m rest queue
+  event_follows p q l (Hears room m rest k r held first readable) are is = hears_one k p l held is room m rest first readable
+  event_follows p q l (Dies k r held gone) are is = dies_now k p l held is gone
+  event_follows p q l (LetsGo k r held rests whole none) are is = lets_go k p l held is rests (whole_of k p.near.standing held are.near whole) none
+  event_follows p q l (Holds r free) are is = holds p l is free
+  event_follows p q l (Loses r lives) are is = loses p l is lives
+  event_follows p q l (Destroys r) are is = destroys p l is
+  event_follows p q l (Drops ms r gone h) are is = drops p l is ms gone h
+  event_follows p q l (Passes ms r over) are is = passes p l is ms over
+  event_follows p q l (Flipped r t event) are is = at_other q l (event_follows (flipped p) (flipped q) (turned l) event (record { near = are.far; far = are.near }) (turn p l is))
 
   runs_chain : (k l m : Link) → Runs version k l → Runs version l m → Runs version k m
   runs_chain k l m one (Still n) = one
   runs_chain k l m one (Run a b c run step) = Run k b c (runs_chain k a b one run) step
 
-  pub course_follows : (p q : Pair) (l : Link) → Courses version p q → IsAs p l → Follows q l
-  course_follows p q l (Rests r) is = by_none p l is
-  course_follows p q l (Goes a b c course event) is =
-      let f : Follows b l = course_follows p b l course is in
-      let g : Follows q f.to = event_follows b q f.to event f.is in
+  course_whole : (p q : Pair) → Courses version p q → AreWhole p → AreWhole q
+  course_whole p q (Rests r) are = are
+  course_whole p q (Goes a b c course event) are = event_whole version b q event (course_whole p b course are)
+
+  pub course_follows : (p q : Pair) (l : Link) → Courses version p q → AreWhole p → IsAs p l → Follows q l
+  course_follows p q l (Rests r) are is = by_none p l is
+  course_follows p q l (Goes a b c course event) are is =
+      let f : Follows b l = course_follows p b l course are is in
+      let g : Follows q f.to = event_follows b q f.to event (course_whole p b course are) f.is in
       record { to = g.to; runs = runs_chain l f.to g.to f.runs g.runs; is = g.is }
 
   -- ---- from a new link on
@@ -312,7 +325,7 @@ module _ (version : ℕ) where
   start_is = record { near = refl; far = refl; here = refl; there = refl; near_deeds = refl; far_deeds = refl; cut = refl }
 
   pub from_start : (p : Pair) → Courses version new_pair p → Follows p start
-  from_start p course = course_follows new_pair p start course start_is
+  from_start p course = course_follows new_pair p start course (record { near = tt; far = tt }) start_is
 
   so_exchanged : (ds es bs cs : List Deed) → es ≡ ds → cs ≡ bs → AreExchanged es cs → AreExchanged ds bs
   so_exchanged ds es bs cs one two is = subst (λ (l : List Deed). AreExchanged l bs) one (subst (λ (l : List Deed). AreExchanged es l) two is)

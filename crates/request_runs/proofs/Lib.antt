@@ -1,2 +1,4 @@
+pub mod Whole
 pub mod Events
 pub mod Ways
+pub mod Changing

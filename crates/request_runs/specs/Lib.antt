@@ -1,3 +1,4 @@
 pub mod Sides
 pub mod Law
 pub mod Ways
+pub mod Changing

@@ -1,5 +1,6 @@
-ghost use Rattle.std.specs.Prelude.{◌≡◌, ◌||◌, false, ℕ, List, [], ◌∷◌, ◌++◌};
+ghost use Rattle.std.specs.Prelude.{◌≡◌, ◌||◌, false, ℕ, List, [], ◌∷◌, ◌++◌, Option};
 ghost use Rattle.charlotte_calls.specs.Setting.{IsValid};
+ghost use Rattle.charlotte_calls.specs.declared.calls.Answer.{Answer as AnAnswer};
 ghost use Rattle.charlotte_calls.specs.declared.calls.ServiceStep.{ServiceStep as AStep};
 ghost use Rattle.charlotte_calls.specs.declared.names.EndId.{EndId};
 ghost use Rattle.charlotte_calls.specs.declared.setting.Setting.{Setting as ASetting};
@@ -7,6 +8,13 @@ ghost use Rattle.service_step.specs.Run.{IsServiceRun};
 ghost use Rattle.service_step.specs.State.{State};
 ghost use Rattle.service_step.specs.declared.state.Message.{Message};
 ghost use Rattle.service_streams.specs.Streams.{cancels_send};
+ghost use Rattle.end_protocol.specs.Deeds.{Deed};
+ghost use Rattle.process_run.specs.Runs.{did};
+ghost use Rattle.process_run.specs.States.{DeedOn, Holding, Place, State as AProcess};
+ghost use Rattle.process_changes.specs.AtEnd.{AreAt, AreSingle, ChangeAt};
+ghost use Rattle.process_changes.specs.Changes.{Changes};
+ghost use Rattle.process_changes.specs.Telling.{ChangesByStep};
+ghost use Rattle.request_runs.specs.Changing.{Becomes, IsFit, IsStandingOf};
 ghost use Rattle.request_runs.specs.Law.{AreInOrder, HasAllEnds};
 ghost use Rattle.request_runs.specs.Sides.{Courses, Pair, is_destroyed, new_pair};
 ghost use Rattle.request_runs.specs.Ways.{HasWay, IsNextWay, IsWay};
@@ -34,4 +42,21 @@ pub fn ways_are_lists()
 pub fn ways_go_on()
     ensures { (e : EndId) (past : List (AStep × State)) (made : AStep) (t : State) (before behind : List Message) → cancels_send e made ≡ false
         → IsWay e past before → IsWay e (past ++ (made, t) ∷ []) behind → IsNextWay e made before behind }
+{}
+
+/// A step of a process changes its ends one after the other, first by what its answer tells and then by what its threads do; and its deeds are those of
+/// the changes.
+pub fn steps_change_ends()
+    ensures { (s : AProcess) (given : Option AnAnswer) → ChangesByStep s (did s given) }
+{}
+
+/// What a step of a process changes after what it was told, seen at one end: one change after the other, with the deeds on that end, in order.
+pub fn changes_are_seen_at_ends()
+    ensures { (version : ℕ) (x : EndId) (ps : List Place) (ds : List DeedOn) (qs : List Place) → Changes version ps ds qs → AreSingle ps → AreAt version x ps ds qs }
+{}
+
+/// Each of these changes is an event at the link of that end, or none, with its deeds.
+pub fn changes_are_events()
+    ensures { (version : ℕ) (p : Pair) (g : Holding) (ds : List Deed) (h : Holding) (c : ChangeAt version g ds h) → IsStandingOf g p.near.standing
+        → IsFit version p g ds h c → Becomes version p ds h }
 {}

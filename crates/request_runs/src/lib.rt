@@ -3,4 +3,4 @@
 
 mod law;
 
-pub use law::{events_go_in_order, events_keep_ends, ways_are_lists, ways_go_on};
+pub use law::{changes_are_events, changes_are_seen_at_ends, events_go_in_order, events_keep_ends, steps_change_ends, ways_are_lists, ways_go_on};

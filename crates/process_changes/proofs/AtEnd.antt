@@ -1,0 +1,239 @@
+-- The changes of a process, seen at one of its ends.
+use Rattle.std.proofs.Common.{◌≡◌, ℕ, zero, suc, ◌+◌, Bool, true, false, if◌then◌else◌, cond, List, [], ◌∷◌, ◌++◌, map, filter, Option, Some, None, slice_get, rules, eq-eqb, eqb-true, refl, sym, ap, subst, ◌∙◌}
+use Rattle.std.specs.Prelude.{◌==◌, option_map}
+use Rattle.std.proofs.lemmas.List.{map-append}
+use Rattle.std.proofs.lemmas.List.Elements.{filter-append}
+use Rattle.std.proofs.lemmas.Option.{slice_get-map}
+use Rattle.charlotte_calls.specs.EndEq.{end_eq}
+use Rattle.charlotte_calls.specs.declared.names.EndId.{EndId}
+use Rattle.end_protocol.specs.declared.kept.Kept.{Kept}
+use Rattle.end_protocol.specs.Deeds.{Deed}
+use Rattle.end_protocol.specs.Going.{returns}
+use Rattle.end_protocol.specs.Happenings.{after, deeds_of}
+use Rattle.end_protocol.specs.Kept.{fresh}
+use Rattle.process_run.specs.States.{DeedOn, Gone, Holding, Keeps, Place, deeds_on}
+use Rattle.process_run.specs.Ends.{number_from, number_of, or_number, place_at, set_holding, with_holding}
+use Rattle.process_run.specs.Reports.{holding_of}
+use Rattle.process_run.specs.Runs.{settled_at, settled_in}
+use Rattle.process_changes.specs.Changes.{Change, Changes, IsHeld}
+use Rattle.process_changes.specs.Changes as changes
+use Rattle.process_changes.specs.AtEnd.{AreAt, AreSingle, ChangeAt, ChangesAt, Destroys, Does, Elsewhere, Holds, LetsGo, None as NoChange, Settles, Then, deeds_at, holding_at}
+use Rattle.process_changes.proofs.Places.{other_place}
+use Rattle.process_changes.proofs.Telling.{kept_index, none_at, numbered, same_end, same_place}
+
+end_eq_self : (x : EndId) → end_eq x x ≡ true
+unfolding end_eq
+end_eq_self x = search rules
+
+-- ---- numbers
+
+abbrev ends : List Place → List EndId
+ends ps = map (λ p. p.end) ps
+
+-- the number of an end depends on the ends alone
+same_number : (x : EndId) (n : ℕ) (ps qs : List Place) → ends ps ≡ ends qs → number_from n x ps ≡ number_from n x qs
+same_number x n [] [] e = refl
+same_number x n [] (q ∷ qs) e = let no : ◌≡◌ {A = List EndId} [] (q.end ∷ ends qs) = e in absurd cc
+same_number x n (p ∷ ps) [] e = let no : ◌≡◌ {A = List EndId} (p.end ∷ ends ps) [] = e in absurd cc
+same_number x n (p ∷ ps) (q ∷ qs) e =
+    let both : p.end ∷ ends ps ≡ q.end ∷ ends qs = e in
+    let first : p.end ≡ q.end = cc in
+    let rest : ends ps ≡ ends qs = cc in
+    ap (λ (m : ℕ). or_number m (if end_eq p.end x then n else 0)) (same_number x (n + 1) ps qs rest)
+    ∙ ap (λ (y : EndId). or_number (number_from (n + 1) x qs) (if end_eq y x then n else 0)) first
+
+ends_set : (i : ℕ) (g : Holding) (ps : List Place) → ends (set_holding i g (slice_get ps i) ps) ≡ ends ps
+ends_set i g [] = refl
+ends_set zero g (p ∷ ps) = refl
+ends_set (suc i) g (p ∷ ps) = by_rest (slice_get ps i) (ends_set i g ps)
+  where
+    by_rest : (o : Option Place) → ends (set_holding i g o ps) ≡ ends ps → ends (set_holding (suc i) g o (p ∷ ps)) ≡ ends (p ∷ ps)
+    by_rest None rest = refl
+    by_rest (Some q) rest = ap (λ (l : List EndId). p.end ∷ l) rest
+
+ends_with : (n : ℕ) (g : Holding) (ps : List Place) → ends (with_holding n g ps) ≡ ends ps
+ends_with zero g ps = refl
+ends_with (suc i) g ps = ends_set i g ps
+
+ends_settled : (room : Bool) (ps : List Place) → ends (map (settled_at room) ps) ≡ ends ps
+ends_settled room [] = refl
+ends_settled room (p ∷ ps) = ap (λ (l : List EndId). p.end ∷ l) (ends_settled room ps)
+
+pub number_with : (x : EndId) (n : ℕ) (g : Holding) (ps : List Place) → number_of x (with_holding n g ps) ≡ number_of x ps
+number_with x n g ps = same_number x 1 (with_holding n g ps) ps (ends_with n g ps)
+
+-- ---- one place changes
+
+kept_at : (n : ℕ) (p : Place) (g : Holding) (ps : List Place) → place_at n ps ≡ Some p → place_at n (with_holding n g ps) ≡ Some (record p { holding = g })
+kept_at zero p g ps at = absurd (none_at p at)
+kept_at (suc i) p g ps at = ap (λ (o : Option Place). slice_get (set_holding i g o ps) i) at ∙ kept_index i p g ps at
+
+-- a place of an end x, under its number
+module _ (n : ℕ) (p : Place) (ps : List Place) (at : place_at n ps ≡ Some p) (its : n ≡ number_of p.end ps) where
+  -- there it is so
+  pub here_so : (g : Holding) → holding_at p.end (with_holding n g ps) ≡ g
+  here_so g =
+      ap (λ (m : ℕ). holding_of (place_at m (with_holding n g ps))) (number_with p.end n g ps ∙ sym its) ∙ ap holding_of (kept_at n p g ps at)
+
+  pub here_was : holding_at p.end ps ≡ p.holding
+  here_was = ap (λ (m : ℕ). holding_of (place_at m ps)) (sym its) ∙ ap holding_of at
+
+  -- elsewhere it is as it was
+  pub others_so : (g : Holding) (y : EndId) → end_eq p.end y ≡ false → holding_at y (with_holding n g ps) ≡ holding_at y ps
+  others_so g y apart = ap (λ (m : ℕ). holding_of (place_at m (with_holding n g ps))) (number_with y n g ps) ∙ ap holding_of (other_place n (number_of y ps) g ps differ)
+    where
+      -- else both were the same end
+      differ : n ≡ number_of y ps → ⊥
+      differ e =
+          let same : p.end ≡ y = numbered y ps p (sym (ap (λ (m : ℕ). place_at m ps) e) ∙ at) in
+          let yes : end_eq p.end y ≡ true = ap (λ (z : EndId). end_eq p.end z) (sym same) ∙ end_eq_self p.end in
+          let no : true ≡ false = sym yes ∙ apart in cc
+
+  pub single_so : (g : Holding) → AreSingle ps → AreSingle (with_holding n g ps)
+  single_so g single m y k held = by_test (n == m) refl
+    where
+      by_test : (b : Bool) → (n == m) ≡ b → m ≡ number_of y (with_holding n g ps)
+      by_test true e =
+          let same : n ≡ m = eqb-true n m e in
+          let there : place_at m (with_holding n g ps) ≡ Some (record p { holding = g }) = ap (λ (i : ℕ). place_at i (with_holding n g ps)) (sym same) ∙ kept_at n p g ps at in
+          let ends_same : p.end ≡ y = ap (λ (q : Place). q.end) (same_place (record p { holding = g }) (record { end = y; holding = Keeps k }) (sym there ∙ held)) in
+          sym same ∙ its ∙ ap (λ (z : EndId). number_of z ps) ends_same ∙ sym (number_with y n g ps)
+      by_test false e =
+          single m y k (sym (other_place n m g ps (λ same. let no : true ≡ false = sym (eq-eqb n m same) ∙ e in cc)) ∙ held) ∙ sym (number_with y n g ps)
+
+-- ---- deeds
+
+deeds_here : (x : EndId) (ds : List Deed) → deeds_at x (deeds_on x ds) ≡ ds
+deeds_here x [] = refl
+deeds_here x (d ∷ ds) =
+    let rest : List DeedOn = filter (λ (e : DeedOn). end_eq e.on x) (deeds_on x ds) in
+    ap (λ (b : Bool). map (λ (e : DeedOn). e.deed) (cond b (record { on = x; deed = d } ∷ rest) rest)) (end_eq_self x) ∙ ap (λ (l : List Deed). d ∷ l) (deeds_here x ds)
+
+deeds_elsewhere : (x y : EndId) (ds : List Deed) → end_eq x y ≡ false → deeds_at y (deeds_on x ds) ≡ []
+deeds_elsewhere x y [] apart = refl
+deeds_elsewhere x y (d ∷ ds) apart =
+    let rest : List DeedOn = filter (λ (e : DeedOn). end_eq e.on y) (deeds_on x ds) in
+    ap (λ (b : Bool). map (λ (e : DeedOn). e.deed) (cond b (record { on = x; deed = d } ∷ rest) rest)) apart ∙ deeds_elsewhere x y ds apart
+
+deeds_both : (y : EndId) (ds es : List DeedOn) → deeds_at y (ds ++ es) ≡ deeds_at y ds ++ deeds_at y es
+deeds_both y ds es =
+    ap (map (λ (d : DeedOn). d.deed)) (filter-append (λ (d : DeedOn). end_eq d.on y) ds es)
+    ∙ map-append (λ (d : DeedOn). d.deed) (filter (λ (d : DeedOn). end_eq d.on y) ds) (filter (λ (d : DeedOn). end_eq d.on y) es)
+
+-- ---- one change
+
+module _ (version : ℕ) where
+  so_at : (f g h i : Holding) (ds es : List Deed) → f ≡ g → ds ≡ es → h ≡ i → ChangeAt version f ds h → ChangeAt version g es i
+  so_at f g h i ds es one two three c =
+      subst (λ (j : Holding). ChangeAt version g es j) three
+      (subst (λ (l : List Deed). ChangeAt version g l h) two (subst (λ (j : Holding). ChangeAt version j ds h) one c))
+
+  -- seen at each end, and afterwards no end is held under two numbers
+  record OneAt (ps : List Place) (ds : List DeedOn) (qs : List Place) : Type 0 where
+    at : (y : EndId) → ChangeAt version (holding_at y ps) (deeds_at y ds) (holding_at y qs)
+    single : AreSingle qs
+
+  -- an end that is held comes to this
+  at_held : (n : ℕ) (x : EndId) (k : Kept) (ps : List Place) → IsHeld n x k ps → AreSingle ps → (g : Holding) (ds : List Deed) → ChangeAt version (Keeps k) ds g → OneAt ps (deeds_on x ds) (with_holding n g ps)
+  at_held n x k ps there single g ds change = record { at = λ y. by_same y (end_eq x y) refl; single = single_so n place ps there its g single }
+    where
+      place : Place
+      place = record { end = x; holding = Keeps k }
+
+      its : n ≡ number_of x ps
+      its = single n x k there
+
+      by_same : (y : EndId) (b : Bool) → end_eq x y ≡ b → ChangeAt version (holding_at y ps) (deeds_at y (deeds_on x ds)) (holding_at y (with_holding n g ps))
+      by_same y true e =
+          subst (λ (z : EndId). ChangeAt version (holding_at z ps) (deeds_at z (deeds_on x ds)) (holding_at z (with_holding n g ps))) (same_end x y e)
+          (so_at (Keeps k) (holding_at x ps) g (holding_at x (with_holding n g ps)) ds (deeds_at x (deeds_on x ds)) (sym (here_was n place ps there its)) (sym (deeds_here x ds)) (sym (here_so n place ps there its g)) change)
+      by_same y false e =
+          so_at (holding_at y ps) (holding_at y ps) (holding_at y ps) (holding_at y (with_holding n g ps)) [] (deeds_at y (deeds_on x ds)) refl (sym (deeds_elsewhere x y ds e)) (sym (others_so n place ps there its g y e))
+          (Elsewhere (holding_at y ps))
+
+  -- ---- allows that are due
+
+  settles_in : (room : Bool) (g : Holding) → ChangeAt version g [] (settled_in room g)
+  settles_in room (Keeps k) = Settles room k
+  settles_in room (Gone own) = Elsewhere (Gone own)
+
+  place_settled : (room : Bool) (n : ℕ) (ps : List Place) → place_at n (map (settled_at room) ps) ≡ option_map (settled_at room) (place_at n ps)
+  place_settled room zero ps = refl
+  place_settled room (suc i) ps = slice_get-map (settled_at room) ps i
+
+  at_settle : (room : Bool) (ps : List Place) → AreSingle ps → OneAt ps [] (map (settled_at room) ps)
+  at_settle room ps single = record { at = each; single = singly }
+    where
+      number : (y : EndId) → number_of y (map (settled_at room) ps) ≡ number_of y ps
+      number y = same_number y 1 (map (settled_at room) ps) ps (ends_settled room ps)
+
+      by_place : (o : Option Place) → ChangeAt version (holding_of o) [] (holding_of (option_map (settled_at room) o))
+      by_place None = Elsewhere (Gone false)
+      by_place (Some p) = settles_in room p.holding
+
+      each : (y : EndId) → ChangeAt version (holding_at y ps) [] (holding_at y (map (settled_at room) ps))
+      each y =
+          subst (λ (h : Holding). ChangeAt version (holding_at y ps) [] h)
+          (sym (ap (λ (m : ℕ). holding_of (place_at m (map (settled_at room) ps))) (number y) ∙ ap holding_of (place_settled room (number_of y ps) ps)))
+          (by_place (place_at (number_of y ps) ps))
+
+      was_held : (m : ℕ) (y : EndId) (k : Kept) (p : Place) (g : Holding) → p.holding ≡ g → place_at m ps ≡ Some p → p.end ≡ y → settled_in room g ≡ Keeps k → m ≡ number_of y ps
+      was_held m y k p (Keeps j) is at ends_same e =
+          single m y j (at ∙ ap (λ (q : Place). Some q) (ap (λ (g : Holding). record { end = p.end; holding = g }) is ∙ ap (λ (z : EndId). record { end = z; holding = Keeps j }) ends_same))
+      was_held m y k p (Gone own) is at ends_same e = let no : Gone own ≡ Keeps k = e in absurd cc
+
+      by_held : (m : ℕ) (y : EndId) (k : Kept) (o : Option Place) → place_at m ps ≡ o → option_map (settled_at room) o ≡ Some (record { end = y; holding = Keeps k }) → m ≡ number_of y ps
+      by_held m y k None at e = absurd (none_at (record { end = y; holding = Keeps k }) e)
+      by_held m y k (Some p) at e =
+          let same : settled_at room p ≡ record { end = y; holding = Keeps k } = same_place (settled_at room p) (record { end = y; holding = Keeps k }) e in
+          was_held m y k p p.holding refl at (ap (λ (q : Place). q.end) same) (ap (λ (q : Place). q.holding) same)
+
+      singly : AreSingle (map (settled_at room) ps)
+      singly m y k held = by_held m y k (place_at m ps) refl (sym (place_settled room m ps) ∙ held) ∙ sym (number y)
+
+  -- ---- an end is held again
+
+  at_none : (n : ℕ) (g : Holding) (ps : List Place) → place_at n ps ≡ None → with_holding n g ps ≡ ps
+  at_none zero g ps none = refl
+  at_none (suc i) g ps none = ap (λ (o : Option Place). set_holding i g o ps) none
+
+  at_holds : (x : EndId) (ps : List Place) → AreSingle ps → OneAt ps [] (with_holding (number_of x ps) (Keeps fresh) ps)
+  at_holds x ps single = by_place (place_at (number_of x ps) ps) refl
+    where
+      qs : List Place
+      qs = with_holding (number_of x ps) (Keeps fresh) ps
+
+      by_place : (o : Option Place) → place_at (number_of x ps) ps ≡ o → OneAt ps [] qs
+      by_place None at = subst (λ (l : List Place). OneAt ps [] l) (sym (at_none (number_of x ps) (Keeps fresh) ps at)) (record { at = λ y. Elsewhere (holding_at y ps); single = single })
+      by_place (Some p) at = record { at = λ y. by_same y (end_eq p.end y) refl; single = single_so (number_of x ps) p ps at its (Keeps fresh) single }
+        where
+          its : number_of x ps ≡ number_of p.end ps
+          its = ap (λ (z : EndId). number_of z ps) (sym (numbered x ps p at))
+
+          by_same : (y : EndId) (b : Bool) → end_eq p.end y ≡ b → ChangeAt version (holding_at y ps) [] (holding_at y qs)
+          by_same y true e =
+              subst (λ (z : EndId). ChangeAt version (holding_at z ps) [] (holding_at z qs)) (same_end p.end y e)
+              (subst (λ (h : Holding). ChangeAt version (holding_at p.end ps) [] h) (sym (here_so (number_of x ps) p ps at its (Keeps fresh))) (Holds (holding_at p.end ps)))
+          by_same y false e =
+              subst (λ (h : Holding). ChangeAt version (holding_at y ps) [] h) (sym (others_so (number_of x ps) p ps at its (Keeps fresh) y e)) (Elsewhere (holding_at y ps))
+
+  -- ---- all changes
+
+  one_at : (ps : List Place) (ds : List DeedOn) (qs : List Place) → Change version ps ds qs → AreSingle ps → OneAt ps ds qs
+  one_at ps ds qs (changes.Does n x k h l there may) single = at_held n x k ps there single (Keeps (after version h k)) (deeds_of version h k) (Does k h may)
+  one_at ps ds qs (changes.Settle room l) single = at_settle room ps single
+  one_at ps ds qs (changes.LetsGo n x k l there rests whole) single = at_held n x k ps there single (Gone false) [] (LetsGo k rests whole)
+  one_at ps ds qs (changes.Destroys n x k l there) single = at_held n x k ps there single (Gone (returns k.sending)) [] (Destroys k)
+  one_at ps ds qs (changes.Holds x l) single = at_holds x ps single
+
+  pub changes_at : (x : EndId) (ps : List Place) (ds : List DeedOn) (qs : List Place) → Changes version ps ds qs → AreSingle ps → AreAt version x ps ds qs
+  changes_at x ps ds qs (changes.None l) single = record { changes = NoChange (holding_at x ps); single = single }
+  changes_at x ps ds qs (changes.Then l as' bs bs' cs one others) single =
+      let first : OneAt ps as' bs = one_at ps as' bs one single in
+      let rest : AreAt version x bs bs' qs = changes_at x bs bs' qs others first.single in
+      record {
+        changes =
+            subst (λ (es : List Deed). ChangesAt version (holding_at x ps) es (holding_at x qs)) (sym (deeds_both x as' bs'))
+            (Then (holding_at x ps) (deeds_at x as') (holding_at x bs) (deeds_at x bs') (holding_at x qs) (first.at x) rest.changes);
+        single = rest.single;
+      }
