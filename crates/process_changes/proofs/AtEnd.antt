@@ -21,7 +21,7 @@ use Rattle.process_changes.specs.AtEnd.{AreAt, AreSingle, ChangeAt, ChangesAt, D
 use Rattle.process_changes.proofs.Places.{other_place}
 use Rattle.process_changes.proofs.Telling.{kept_index, none_at, numbered, same_end, same_place}
 
-end_eq_self : (x : EndId) → end_eq x x ≡ true
+pub end_eq_self : (x : EndId) → end_eq x x ≡ true
 unfolding end_eq
 end_eq_self x = search rules
 
@@ -78,16 +78,16 @@ module _ (n : ℕ) (p : Place) (ps : List Place) (at : place_at n ps ≡ Some p)
   pub here_was : holding_at p.end ps ≡ p.holding
   here_was = ap (λ (m : ℕ). holding_of (place_at m ps)) (sym its) ∙ ap holding_of at
 
+  -- another end has another number
+  pub differ : (y : EndId) → end_eq p.end y ≡ false → n ≡ number_of y ps → ⊥
+  differ y apart e =
+      let same : p.end ≡ y = numbered y ps p (sym (ap (λ (m : ℕ). place_at m ps) e) ∙ at) in
+      let yes : end_eq p.end y ≡ true = ap (λ (z : EndId). end_eq p.end z) (sym same) ∙ end_eq_self p.end in
+      let no : true ≡ false = sym yes ∙ apart in cc
+
   -- elsewhere it is as it was
   pub others_so : (g : Holding) (y : EndId) → end_eq p.end y ≡ false → holding_at y (with_holding n g ps) ≡ holding_at y ps
-  others_so g y apart = ap (λ (m : ℕ). holding_of (place_at m (with_holding n g ps))) (number_with y n g ps) ∙ ap holding_of (other_place n (number_of y ps) g ps differ)
-    where
-      -- else both were the same end
-      differ : n ≡ number_of y ps → ⊥
-      differ e =
-          let same : p.end ≡ y = numbered y ps p (sym (ap (λ (m : ℕ). place_at m ps) e) ∙ at) in
-          let yes : end_eq p.end y ≡ true = ap (λ (z : EndId). end_eq p.end z) (sym same) ∙ end_eq_self p.end in
-          let no : true ≡ false = sym yes ∙ apart in cc
+  others_so g y apart = ap (λ (m : ℕ). holding_of (place_at m (with_holding n g ps))) (number_with y n g ps) ∙ ap holding_of (other_place n (number_of y ps) g ps (differ y apart))
 
   pub single_so : (g : Holding) → AreSingle ps → AreSingle (with_holding n g ps)
   single_so g single m y k held = by_test (n == m) refl
@@ -122,34 +122,66 @@ deeds_both y ds es =
 
 -- ---- one change
 
-module _ (version : ℕ) where
-  so_at : (f g h i : Holding) (ds es : List Deed) → f ≡ g → ds ≡ es → h ≡ i → ChangeAt version f ds h → ChangeAt version g es i
-  so_at f g h i ds es one two three c =
-      subst (λ (j : Holding). ChangeAt version g es j) three
-      (subst (λ (l : List Deed). ChangeAt version g l h) two (subst (λ (j : Holding). ChangeAt version j ds h) one c))
+-- as C says what it is at each end
+module _ (C : EndId → Holding → List Deed → Holding → Type 0) where
+  so_at : (y : EndId) (f g h i : Holding) (ds es : List Deed) → f ≡ g → ds ≡ es → h ≡ i → C y f ds h → C y g es i
+  so_at y f g h i ds es one two three c =
+      subst (λ (j : Holding). C y g es j) three
+      (subst (λ (l : List Deed). C y g l h) two (subst (λ (j : Holding). C y j ds h) one c))
 
   -- seen at each end, and afterwards no end is held under two numbers
-  record OneAt (ps : List Place) (ds : List DeedOn) (qs : List Place) : Type 0 where
-    at : (y : EndId) → ChangeAt version (holding_at y ps) (deeds_at y ds) (holding_at y qs)
-    single : AreSingle qs
+  pub record OneAt (ps : List Place) (ds : List DeedOn) (qs : List Place) : Type 0 where
+    pub at : (y : EndId) → C y (holding_at y ps) (deeds_at y ds) (holding_at y qs)
+    pub single : AreSingle qs
 
   -- an end that is held comes to this
-  at_held : (n : ℕ) (x : EndId) (k : Kept) (ps : List Place) → IsHeld n x k ps → AreSingle ps → (g : Holding) (ds : List Deed) → ChangeAt version (Keeps k) ds g → OneAt ps (deeds_on x ds) (with_holding n g ps)
-  at_held n x k ps there single g ds change = record { at = λ y. by_same y (end_eq x y) refl; single = single_so n place ps there its g single }
-    where
-      place : Place
-      place = record { end = x; holding = Keeps k }
+  module _ (n : ℕ) (x : EndId) (k : Kept) (ps : List Place) (there : IsHeld n x k ps) (single : AreSingle ps) (elsewhere : (y : EndId) → end_eq x y ≡ false → C y (holding_at y ps) [] (holding_at y ps)) (g : Holding) where
+    abbrev place : Place
+    place = record { end = x; holding = Keeps k }
 
-      its : n ≡ number_of x ps
-      its = single n x k there
+    its : n ≡ number_of x ps
+    its = single n x k there
 
-      by_same : (y : EndId) (b : Bool) → end_eq x y ≡ b → ChangeAt version (holding_at y ps) (deeds_at y (deeds_on x ds)) (holding_at y (with_holding n g ps))
-      by_same y true e =
-          subst (λ (z : EndId). ChangeAt version (holding_at z ps) (deeds_at z (deeds_on x ds)) (holding_at z (with_holding n g ps))) (same_end x y e)
-          (so_at (Keeps k) (holding_at x ps) g (holding_at x (with_holding n g ps)) ds (deeds_at x (deeds_on x ds)) (sym (here_was n place ps there its)) (sym (deeds_here x ds)) (sym (here_so n place ps there its g)) change)
-      by_same y false e =
-          so_at (holding_at y ps) (holding_at y ps) (holding_at y ps) (holding_at y (with_holding n g ps)) [] (deeds_at y (deeds_on x ds)) refl (sym (deeds_elsewhere x y ds e)) (sym (others_so n place ps there its g y e))
-          (Elsewhere (holding_at y ps))
+    -- the places are so afterwards
+    by_places : (ds : List Deed) (qs : List Place) → holding_at x qs ≡ g → ((y : EndId) → end_eq x y ≡ false → holding_at y qs ≡ holding_at y ps) → AreSingle qs → C x (Keeps k) ds g →
+        OneAt ps (deeds_on x ds) qs
+    by_places ds qs here others singly c = record { at = λ y. by_same y (end_eq x y) refl; single = singly }
+      where
+        by_same : (y : EndId) (b : Bool) → end_eq x y ≡ b → C y (holding_at y ps) (deeds_at y (deeds_on x ds)) (holding_at y qs)
+        by_same y true e =
+            subst (λ (z : EndId). C z (holding_at z ps) (deeds_at z (deeds_on x ds)) (holding_at z qs)) (same_end x y e)
+            (so_at x (Keeps k) (holding_at x ps) g (holding_at x qs) ds (deeds_at x (deeds_on x ds)) (sym (here_was n place ps there its)) (sym (deeds_here x ds)) (sym here) c)
+        by_same y false e =
+            so_at y (holding_at y ps) (holding_at y ps) (holding_at y ps) (holding_at y qs) [] (deeds_at y (deeds_on x ds)) refl (sym (deeds_elsewhere x y ds e)) (sym (others y e))
+            (elsewhere y e)
+
+    pub at_held : (ds : List Deed) → C x (Keeps k) ds g → OneAt ps (deeds_on x ds) (with_holding n g ps)
+    at_held ds c = by_places ds (with_holding n g ps) (here_so n place ps there its g) (others_so n place ps there its g) (single_so n place ps there its g single) c
+
+    -- after something else is kept for it
+    pub at_twice : (j : Kept) → C x (Keeps k) [] g → OneAt ps [] (with_holding n g (with_holding n (Keeps j) ps))
+    at_twice j c =
+        by_places [] (with_holding n g between) (here_so n later between now its_now g) (λ y e. others_so n later between now its_now g y e ∙ others_so n place ps there its (Keeps j) y e)
+        (single_so n later between now its_now g (single_so n place ps there its (Keeps j) single)) c
+      where
+        between : List Place
+        between = with_holding n (Keeps j) ps
+
+        later : Place
+        later = record { end = x; holding = Keeps j }
+
+        now : place_at n between ≡ Some later
+        now = kept_at n place (Keeps j) ps there
+
+        its_now : n ≡ number_of x between
+        its_now = its ∙ sym (number_with x n (Keeps j) ps)
+
+module _ (version : ℕ) where
+  abbrev pub Here : EndId → Holding → List Deed → Holding → Type 0
+  Here y f ds g = ChangeAt version f ds g
+
+  abbrev pub One : List Place → List DeedOn → List Place → Type 0
+  One ps ds qs = OneAt Here ps ds qs
 
   -- ---- allows that are due
 
@@ -161,7 +193,7 @@ module _ (version : ℕ) where
   place_settled room zero ps = refl
   place_settled room (suc i) ps = slice_get-map (settled_at room) ps i
 
-  at_settle : (room : Bool) (ps : List Place) → AreSingle ps → OneAt ps [] (map (settled_at room) ps)
+  at_settle : (room : Bool) (ps : List Place) → AreSingle ps → One ps [] (map (settled_at room) ps)
   at_settle room ps single = record { at = each; single = singly }
     where
       number : (y : EndId) → number_of y (map (settled_at room) ps) ≡ number_of y ps
@@ -197,14 +229,14 @@ module _ (version : ℕ) where
   at_none zero g ps none = refl
   at_none (suc i) g ps none = ap (λ (o : Option Place). set_holding i g o ps) none
 
-  at_holds : (x : EndId) (ps : List Place) → AreSingle ps → OneAt ps [] (with_holding (number_of x ps) (Keeps fresh) ps)
+  at_holds : (x : EndId) (ps : List Place) → AreSingle ps → One ps [] (with_holding (number_of x ps) (Keeps fresh) ps)
   at_holds x ps single = by_place (place_at (number_of x ps) ps) refl
     where
       qs : List Place
       qs = with_holding (number_of x ps) (Keeps fresh) ps
 
-      by_place : (o : Option Place) → place_at (number_of x ps) ps ≡ o → OneAt ps [] qs
-      by_place None at = subst (λ (l : List Place). OneAt ps [] l) (sym (at_none (number_of x ps) (Keeps fresh) ps at)) (record { at = λ y. Elsewhere (holding_at y ps); single = single })
+      by_place : (o : Option Place) → place_at (number_of x ps) ps ≡ o → One ps [] qs
+      by_place None at = subst (λ (l : List Place). One ps [] l) (sym (at_none (number_of x ps) (Keeps fresh) ps at)) (record { at = λ y. Elsewhere (holding_at y ps); single = single })
       by_place (Some p) at = record { at = λ y. by_same y (end_eq p.end y) refl; single = single_so (number_of x ps) p ps at its (Keeps fresh) single }
         where
           its : number_of x ps ≡ number_of p.end ps
@@ -219,17 +251,17 @@ module _ (version : ℕ) where
 
   -- ---- all changes
 
-  one_at : (ps : List Place) (ds : List DeedOn) (qs : List Place) → Change version ps ds qs → AreSingle ps → OneAt ps ds qs
-  one_at ps ds qs (changes.Does n x k h l there may) single = at_held n x k ps there single (Keeps (after version h k)) (deeds_of version h k) (Does k h may)
+  pub one_at : (ps : List Place) (ds : List DeedOn) (qs : List Place) → Change version ps ds qs → AreSingle ps → One ps ds qs
+  one_at ps ds qs (changes.Does n x k h l there may) single = at_held Here n x k ps there single (λ y apart. Elsewhere (holding_at y ps)) (Keeps (after version h k)) (deeds_of version h k) (Does k h may)
   one_at ps ds qs (changes.Settle room l) single = at_settle room ps single
-  one_at ps ds qs (changes.LetsGo n x k l there rests whole) single = at_held n x k ps there single (Gone false) [] (LetsGo k rests whole)
-  one_at ps ds qs (changes.Destroys n x k l there) single = at_held n x k ps there single (Gone (returns k.sending)) [] (Destroys k)
+  one_at ps ds qs (changes.LetsGo n x k l there rests whole) single = at_held Here n x k ps there single (λ y apart. Elsewhere (holding_at y ps)) (Gone false) [] (LetsGo k rests whole)
+  one_at ps ds qs (changes.Destroys n x k l there) single = at_held Here n x k ps there single (λ y apart. Elsewhere (holding_at y ps)) (Gone (returns k.sending)) [] (Destroys k)
   one_at ps ds qs (changes.Holds x l) single = at_holds x ps single
 
   pub changes_at : (x : EndId) (ps : List Place) (ds : List DeedOn) (qs : List Place) → Changes version ps ds qs → AreSingle ps → AreAt version x ps ds qs
   changes_at x ps ds qs (changes.None l) single = record { changes = NoChange (holding_at x ps); single = single }
   changes_at x ps ds qs (changes.Then l as' bs bs' cs one others) single =
-      let first : OneAt ps as' bs = one_at ps as' bs one single in
+      let first : One ps as' bs = one_at ps as' bs one single in
       let rest : AreAt version x bs bs' qs = changes_at x bs bs' qs others first.single in
       record {
         changes =

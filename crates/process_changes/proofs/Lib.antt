@@ -4,4 +4,5 @@ pub mod Acting
 pub mod Slices
 pub mod Telling
 pub mod AtEnd
+pub mod Getting
 pub mod Steps

@@ -28,7 +28,7 @@ may_happen ReceiveOver k may few = absurd may
 may_happen CancelLate k may few = absurd may
 may_happen happenings.Dies k may few = absurd may
 
-not_destroyed : (s : Standing) (k : Kept) → s ≡ Held k → s ≡ Destroyed → ⊥
+pub not_destroyed : (s : Standing) (k : Kept) → s ≡ Held k → s ≡ Destroyed → ⊥
 not_destroyed s k held gone = let no : Held k ≡ Destroyed = sym held ∙ gone in cc
 
 module _ (version : ℕ) (p : Pair) where
@@ -39,7 +39,7 @@ module _ (version : ℕ) (p : Pair) where
   quietly : p.near_deeds ≡ p.near_deeds ++ []
   quietly = sym (append-nil p.near_deeds)
 
-  pub change_becomes : (g : Holding) (ds : List Deed) (h : Holding) → (c : ChangeAt version g ds h) → IsStandingOf g p.near.standing → IsFit version p g ds h c → Becomes version p ds h
+  pub change_becomes : (g : Holding) (ds : List Deed) (h : Holding) → (c : ChangeAt version g ds h) → IsStandingOf g p.near.standing → IsFit version p g ds h c → Becomes version p ds h p.near.coming
   change_becomes g ds h (at_end.Elsewhere f) standing fit =
       record { to = p; course = Rests p; standing = standing; coming = refl; far = refl; near_deeds = quietly; far_deeds = refl }
   change_becomes g ds h (at_end.Does k what may) standing fit =

@@ -1,5 +1,6 @@
 -- What a process does at one of its ends, as events at the link of that end.
 use Rattle.std.specs.Prelude.{◌≡◌, ◌≤◌, ◌⊎◌, ℕ, List, [], ◌++◌, length, ⊤}
+use Rattle.end_protocol.specs.declared.messages.Message.{Message}
 use Rattle.end_protocol.specs.Deeds.{Deed}
 use Rattle.end_protocol.specs.Happenings.{Happening, Connects, Replies}
 use Rattle.process_run.specs.States.{Gone, Holding, Keeps}
@@ -26,12 +27,12 @@ IsFit version p g ds h (at_end.LetsGo k rests whole) = p.far.standing ≡ Destro
 IsFit version p g ds h (at_end.Holds f) = p.near.standing ≡ Free
 IsFit version p g ds h _ = ⊤
 
--- events lead to a link on which the owner has this of the end, with these deeds more; the other end, and what is coming to either, is as it was
-pub record Becomes (version : ℕ) (p : Pair) (ds : List Deed) (h : Holding) : Type 0 where
+-- Events lead to a link on which the owner has this of the end, to which these messages are coming, with these deeds more. The other end is as it was
+pub record Becomes (version : ℕ) (p : Pair) (ds : List Deed) (h : Holding) (ms : List Message) : Type 0 where
   pub to : Pair
   pub course : Courses version p to
   pub standing : IsStandingOf h to.near.standing
-  pub coming : to.near.coming ≡ p.near.coming
+  pub coming : to.near.coming ≡ ms
   pub far : to.far ≡ p.far
   pub near_deeds : to.near_deeds ≡ p.near_deeds ++ ds
   pub far_deeds : to.far_deeds ≡ p.far_deeds

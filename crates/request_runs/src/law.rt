@@ -9,14 +9,18 @@ ghost use Rattle.service_step.specs.State.{State};
 ghost use Rattle.service_step.specs.declared.state.Message.{Message};
 ghost use Rattle.service_streams.specs.Streams.{cancels_send};
 ghost use Rattle.end_protocol.specs.Deeds.{Deed};
+ghost use Rattle.language_links.specs.Acting.{Done};
+ghost use Rattle.language_links.specs.Claims.{AreInOrder as AllInOrder};
 ghost use Rattle.process_run.specs.Runs.{did};
 ghost use Rattle.process_run.specs.States.{DeedOn, Holding, Place, State as AProcess};
-ghost use Rattle.process_changes.specs.AtEnd.{AreAt, AreSingle, ChangeAt};
+ghost use Rattle.process_changes.specs.AtEnd.{AreAt, AreNew, AreSingle, ChangeAt, ToldAt};
 ghost use Rattle.process_changes.specs.Changes.{Changes};
-ghost use Rattle.process_changes.specs.Telling.{ChangesByStep};
+ghost use Rattle.process_changes.specs.Telling.{Aftermath, ChangesByStep, Turn};
 ghost use Rattle.request_runs.specs.Changing.{Becomes, IsFit, IsStandingOf};
+ghost use Rattle.request_runs.specs.Followed.{IsFollowed};
 ghost use Rattle.request_runs.specs.Law.{AreInOrder, HasAllEnds};
 ghost use Rattle.request_runs.specs.Sides.{Courses, Pair, is_destroyed, new_pair};
+ghost use Rattle.request_runs.specs.Told.{IsStandingNow, IsTrue, left};
 ghost use Rattle.request_runs.specs.Ways.{HasWay, IsNextWay, IsWay};
 
 /// After any events at a link that was just made, requests were accepted at most once and in the order in which they were issued, and each connect that
@@ -29,6 +33,11 @@ pub fn events_go_in_order()
 /// way, with the request or reply in part, or with the connect.
 pub fn events_keep_ends()
     ensures { (version : ℕ) (p : Pair) → Courses version new_pair p → is_destroyed p.near.standing || is_destroyed p.far.standing ≡ false → HasAllEnds p }
+{}
+
+/// Where the deeds of a run are, on each end and its opposite, those of events at a link, the claims on requests and replies hold of the run.
+pub fn followed_runs_are_in_order()
+    ensures { (version : ℕ) (ds : List Done) → ((x : EndId) → IsFollowed version x ds) → AllInOrder ds }
 {}
 
 /// In every run of the service what was sent on an end, after the messages of which the owners of its opposite were told, is a list, which may be empty:
@@ -47,7 +56,19 @@ pub fn ways_go_on()
 /// A step of a process changes its ends one after the other, first by what its answer tells and then by what its threads do; and its deeds are those of
 /// the changes.
 pub fn steps_change_ends()
-    ensures { (s : AProcess) (given : Option AnAnswer) → ChangesByStep s (did s given) }
+    ensures { (s : AProcess) (given : Option AnAnswer) → ChangesByStep s given (did s given) }
+{}
+
+/// What a step of a process is told of an end is, where it is true, events at the link of that end, or none, with its deeds; and a message that is reported is the first that is coming.
+pub fn tellings_are_events()
+    ensures { (version : ℕ) (t : Turn) (x : EndId) (n : ℕ) (p : Pair) (g : Holding) (ds : List Deed) (h : Holding) (c : ToldAt version t x n g ds h)
+        → IsStandingNow t n g p.near.standing → IsTrue version t x n p g ds h c → Becomes version p ds h (left version t x n g ds h c p.near.coming) }
+{}
+
+/// What comes of it, seen at one end: one change after the other, where no end is got that the process holds, and it may get one more. An end that it gets
+/// is held from then on, as one that it holds again.
+pub fn aftermaths_are_seen_at_ends()
+    ensures { (version : ℕ) (x : EndId) (ps qs : List Place) (a : Aftermath version ps qs) → AreNew version ps qs a → AreSingle ps → AreAt version x ps [] qs }
 {}
 
 /// What a step of a process changes after what it was told, seen at one end: one change after the other, with the deeds on that end, in order.
@@ -58,5 +79,5 @@ pub fn changes_are_seen_at_ends()
 /// Each of these changes is an event at the link of that end, or none, with its deeds.
 pub fn changes_are_events()
     ensures { (version : ℕ) (p : Pair) (g : Holding) (ds : List Deed) (h : Holding) (c : ChangeAt version g ds h) → IsStandingOf g p.near.standing
-        → IsFit version p g ds h c → Becomes version p ds h }
+        → IsFit version p g ds h c → Becomes version p ds h p.near.coming }
 {}
