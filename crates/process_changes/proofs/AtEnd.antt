@@ -1,23 +1,34 @@
 -- The changes of a process, seen at one of its ends.
-use Rattle.std.proofs.Common.{◌≡◌, ℕ, zero, suc, ◌+◌, Bool, true, false, if◌then◌else◌, cond, List, [], ◌∷◌, ◌++◌, map, filter, Option, Some, None, slice_get, rules, eq-eqb, eqb-true, refl, sym, ap, subst, ◌∙◌}
+use Rattle.std.proofs.Common.{◌≡◌, ℕ, zero, suc, ◌+◌, Bool, true, false, if◌then◌else◌, cond, ⊎_elim, List, [], ◌∷◌, ◌++◌, map, filter, Option, Some, None, slice_get, rules, eq-eqb, eqb-true, refl, sym, ap, subst, ◌∙◌}
 use Rattle.std.specs.Prelude.{◌==◌, option_map}
 use Rattle.std.proofs.lemmas.List.{map-append}
 use Rattle.std.proofs.lemmas.List.Elements.{filter-append}
 use Rattle.std.proofs.lemmas.Option.{slice_get-map}
 use Rattle.charlotte_calls.specs.EndEq.{end_eq}
+use Rattle.charlotte_calls.specs.declared.calls.Answer.{Answer}
+use Rattle.charlotte_calls.specs.declared.calls.Answer.TheVariants as answer
+use Rattle.charlotte_calls.specs.declared.calls.Cause.TheVariants.{Dead, Late}
+use Rattle.charlotte_calls.specs.declared.calls.Report.{Report}
 use Rattle.charlotte_calls.specs.declared.names.EndId.{EndId}
 use Rattle.end_protocol.specs.declared.kept.Kept.{Kept}
-use Rattle.end_protocol.specs.Deeds.{Deed}
-use Rattle.end_protocol.specs.Going.{returns}
-use Rattle.end_protocol.specs.Happenings.{after, deeds_of}
+use Rattle.end_protocol.specs.Deeds.{Deed, heard_deeds}
+use Rattle.end_protocol.specs.Falling.{dies}
+use Rattle.end_protocol.specs.Going.{receive_over, returns}
+use Rattle.end_protocol.specs.Happenings.{CancelLate, Happening, ReceiveOver, Receives, SendOver, after, deeds_of}
+use Rattle.end_protocol.specs.Happenings as happenings
+use Rattle.end_protocol.specs.Hearing.{hears}
 use Rattle.end_protocol.specs.Kept.{fresh}
-use Rattle.process_run.specs.States.{DeedOn, Gone, Holding, Keeps, Place, deeds_on}
-use Rattle.process_run.specs.Ends.{number_from, number_of, or_number, place_at, set_holding, with_holding}
+use Rattle.process_run.specs.States.{Asked, DeedOn, Gone, Held, Holding, Keeps, Place, deeds_on}
+use Rattle.process_run.specs.States as process
+use Rattle.process_run.specs.Ends.{held_in, held_of, number_from, number_of, or_number, place_at, set_holding, with_holding}
 use Rattle.process_run.specs.Reports.{holding_of}
 use Rattle.process_run.specs.Runs.{settled_at, settled_in}
 use Rattle.process_changes.specs.Changes.{Change, Changes, IsHeld}
 use Rattle.process_changes.specs.Changes as changes
-use Rattle.process_changes.specs.AtEnd.{AreAt, AreSingle, ChangeAt, ChangesAt, Destroys, Does, Elsewhere, Holds, LetsGo, None as NoChange, Settles, Then, deeds_at, holding_at}
+use Rattle.process_changes.specs.AtEnd.{AreAt, AreSingle, ChangeAt, ChangesAt, Destroys, Does, Elsewhere, Holds, IsToldAt, IsUntold, IsUntoldOf, LetsGo, None as NoChange, Settles, Then, ToldAt, deeds_at, holding_at}
+use Rattle.process_changes.specs.AtEnd as told
+use Rattle.process_changes.specs.Telling.{IsAnswer, IsDeath, IsDeathWith, IsReport, IsSilent, IsTold, IsUnheld, Kills, Telling, Turn}
+use Rattle.process_changes.specs.Telling as tells
 use Rattle.process_changes.proofs.Places.{other_place}
 use Rattle.process_changes.proofs.Telling.{kept_index, none_at, numbered, same_end, same_place}
 
@@ -269,3 +280,109 @@ module _ (version : ℕ) where
             (Then (holding_at x ps) (deeds_at x as') (holding_at x bs) (deeds_at x bs') (holding_at x qs) (first.at x) rest.changes);
         single = rest.single;
       }
+
+  -- ---- what is told
+
+  module _ (t : Turn) (ps : List Place) (single : AreSingle ps) where
+    abbrev Told : EndId → Holding → List Deed → Holding → Type 0
+    Told y f ds g = ToldAt version t y (number_of y ps) f ds g
+
+    untold_of : (y : EndId) (g : Holding) → ((k : Kept) → g ≡ Keeps k → IsUntold t y (number_of y ps)) → IsUntoldOf t y (number_of y ps) g
+    untold_of y (Keeps k) so = so k refl
+    untold_of y (Gone own) so = tt
+
+    -- the number of the end of which something is told
+    abbrev about : Asked → Option Answer → ℕ
+    about (process.Send n) given = n
+    about (process.Receive n) given = n
+    about (process.Cancel n) given = n
+    about process.Wait (Some (answer.Reported r)) = number_of r.on ps
+    about asked given = 0
+
+    is_about : (asked : Asked) (a : Answer) → IsTold t asked a → about t.asked t.given ≡ about asked (Some a)
+    is_about asked a is = ap (λ (b : Asked). about b t.given) is.0 ∙ ap (λ (g : Option Answer). about asked g) is.1
+
+    reported_about : (r : Report) (y : EndId) → IsReport t r y → about t.asked t.given ≡ number_of y ps
+    reported_about r y is = is_about process.Wait (answer.Reported r) is.0 ∙ ap (λ (z : EndId). number_of z ps) is.1
+
+    -- something is told of x, which is held
+    module _ (n : ℕ) (x : EndId) (k : Kept) (there : IsHeld n x k ps) (of_it : about t.asked t.given ≡ n) where
+      apart : (y : EndId) → end_eq x y ≡ false → Told y (holding_at y ps) [] (holding_at y ps)
+      apart y e = told.Otherwise (holding_at y ps) (untold_of y (holding_at y ps) (λ j keeps. untold))
+        where
+          clash : about t.asked t.given ≡ number_of y ps → ⊥
+          clash of_y = differ n (record { end = x; holding = Keeps k }) ps there (single n x k there) y e (sym of_it ∙ of_y)
+
+          untold : IsUntold t y (number_of y ps)
+          untold = record { unsent = λ is. clash (is_about (process.Send (number_of y ps)) answer.Ok is); unheard = λ bytes xs b. clash (reported_about b.report y b.told) }
+
+      comes_to : (g : Holding) (ds : List Deed) → Told x (Keeps k) ds g → OneAt Told ps (deeds_on x ds) (with_holding n g ps)
+      comes_to g ds c = at_held Told n x k ps there single apart g ds c
+
+    -- nothing is told of an end that is held
+    not_unheld : (n : ℕ) (k : Kept) (o : Option Place) → holding_of o ≡ Keeps k → held_of n o ≡ None → ⊥
+    not_unheld n k None keeps none = let no : Gone false ≡ Keeps k = keeps in cc
+    not_unheld n k (Some p) keeps none = by_holding p.holding keeps none
+      where
+        by_holding : (g : Holding) → g ≡ Keeps k → held_in n p.end g ≡ None → ⊥
+        by_holding (Keeps j) e no_held = let no : ◌≡◌ {A = Option Held} (Some (record { number = n; end = p.end; kept = j })) None = no_held in cc
+        by_holding (Gone own) e no_held = let no : Gone own ≡ Keeps k = e in cc
+
+    silent_as : (asked : Asked) (given : Option Answer) → t.asked ≡ asked → t.given ≡ given → IsSilent t.asked t.given ps → IsSilent asked given ps
+    silent_as asked given one two silent = subst (λ (g : Option Answer). IsSilent asked g ps) two (subst (λ (a : Asked). IsSilent a t.given ps) one silent)
+
+    silent_untold : IsSilent t.asked t.given ps → (y : EndId) (k : Kept) → holding_at y ps ≡ Keeps k → IsUntold t y (number_of y ps)
+    silent_untold silent y k keeps = record {
+      unsent = λ is. not_unheld (number_of y ps) k (place_at (number_of y ps) ps) keeps (silent_as (process.Send (number_of y ps)) (Some answer.Ok) is.0 is.1 silent);
+      unheard = λ bytes xs b.
+          not_unheld (number_of y ps) k (place_at (number_of y ps) ps) keeps
+          (subst (λ (z : EndId). IsUnheld (number_of z ps) ps) b.told.1 (silent_as process.Wait (Some (answer.Reported b.report)) b.told.0.0 b.told.0.1 silent));
+    }
+
+    answer_about : (n : ℕ) (x : EndId) (h : Happening) → number_of x ps ≡ n → IsAnswer t n x h → about t.asked t.given ≡ n
+    answer_about n x happenings.Sends same is = is_about (process.Send n) answer.Ok is
+    answer_about n x SendOver same is = reported_about is.report x is.told ∙ same
+    answer_about n x Receives same is = is_about (process.Receive n) answer.Ok is
+    answer_about n x ReceiveOver same is = is_about (process.Cancel n) answer.Ok is
+    answer_about n x CancelLate same is = is_about (process.Cancel n) (answer.Refused Late) is
+    answer_about n x (happenings.Connects c) same is = absurd is
+    answer_about n x (happenings.Accepts a) same is = absurd is
+    answer_about n x (happenings.Binds b) same is = absurd is
+    answer_about n x (happenings.Unbinds entry) same is = absurd is
+    answer_about n x (happenings.Replies r) same is = absurd is
+    answer_about n x (happenings.Hears room packet xs) same is = absurd is
+    answer_about n x (happenings.Settles room) same is = absurd is
+    answer_about n x happenings.Dies same is = absurd is
+
+    death_about : (n : ℕ) → IsDeath t n → about t.asked t.given ≡ n
+    death_about n death =
+        ⊎_elim (λ (d : IsTold t (process.Send n) (answer.Refused Dead)). is_about (process.Send n) (answer.Refused Dead) d)
+        (λ (d : IsTold t (process.Receive n) (answer.Refused Dead)). is_about (process.Receive n) (answer.Refused Dead) d) death
+
+    death_with_about : (n : ℕ) (x : EndId) (h : Happening) → number_of x ps ≡ n → IsDeathWith t n x h → about t.asked t.given ≡ n
+    death_with_about n x h same death =
+        ⊎_elim (λ (d : IsTold t (process.Cancel n) (answer.Refused Dead) × (h ≡ CancelLate)). is_about (process.Cancel n) (answer.Refused Dead) d.0)
+        (λ (d : Kills t x h). reported_about d.report x d.told ∙ same) death
+
+    one_told : (ds : List DeedOn) (qs : List Place) → Telling version t ps ds qs → OneAt Told ps ds qs
+    one_told ds qs (tells.Silent l silent) =
+        record { at = λ y. told.Otherwise (holding_at y ps) (untold_of y (holding_at y ps) (λ k keeps. silent_untold silent y k keeps)); single = single }
+    one_told ds qs (tells.Answers n x k h l there is) =
+        comes_to n x k there (answer_about n x h (sym (single n x k there)) is) (Keeps (after version h k)) []
+        (told.Answers k h (subst (λ (m : ℕ). IsAnswer t m x h) (single n x k there) is))
+    one_told ds qs (tells.Hears n x k room bytes packet xs l there brings spelled readable) =
+        let y = hears version room packet xs (receive_over k) in
+        comes_to n x k there (reported_about brings.report x brings.told ∙ sym (single n x k there)) (Keeps y.0) (heard_deeds y.1) (told.Hears k room bytes packet xs brings spelled readable)
+    one_told ds qs (tells.Ignores n x k bytes left xs l there brings e) =
+        comes_to n x k there (reported_about brings.report x brings.told ∙ sym (single n x k there)) (Keeps (receive_over k)) [] (told.Ignores k bytes left xs brings e)
+    one_told ds qs (tells.Breaks n x k j bytes xs l there brings) =
+        at_twice Told n x k ps there single (apart n x k there (reported_about brings.report x brings.told ∙ sym (single n x k there))) (Gone (returns j.sending)) j
+        (told.Breaks k (returns j.sending) bytes xs brings)
+    one_told ds qs (tells.Dies n x k l there death) =
+        comes_to n x k there (death_about n death) (Keeps (dies k)) [] (told.Dies k (subst (λ (m : ℕ). IsDeath t m) (single n x k there) death))
+    one_told ds qs (tells.DiesWith n x k h l there death) =
+        comes_to n x k there (death_with_about n x h (sym (single n x k there)) death) (Keeps (dies (after version h k))) []
+        (told.DiesWith k h (subst (λ (m : ℕ). IsDeathWith t m x h) (single n x k there) death))
+
+  pub told_at : (t : Turn) (x : EndId) (ps : List Place) (ds : List DeedOn) (qs : List Place) → Telling version t ps ds qs → AreSingle ps → IsToldAt version t x ps ds qs
+  told_at t x ps ds qs telling single = let one = one_told t ps single ds qs telling in record { told = one.at x; single = one.single }

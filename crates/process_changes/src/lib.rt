@@ -7,5 +7,5 @@
 //! `specs/Changes.antt`): `step_changes` in `proofs/Steps.antt`. Nobody connects on a dead end, and each request and reply has an end for each link among its
 //! values. An end that goes has no request in part, unless it is dead (`rest_whole` in `proofs/Due.antt`).
 //!
-//! Seen at one end (`ToldAt` and `ChangeAt` in `specs/AtEnd.antt`): `changes_at` in `proofs/AtEnd.antt`, `after_at` in `proofs/Getting.antt`.
+//! Seen at one end (`ToldAt` and `ChangeAt` in `specs/AtEnd.antt`): `told_at` and `changes_at` in `proofs/AtEnd.antt`, `after_at` in `proofs/Getting.antt`.
 #![tactic(auto)]

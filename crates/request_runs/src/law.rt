@@ -13,9 +13,9 @@ ghost use Rattle.language_links.specs.Acting.{Done};
 ghost use Rattle.language_links.specs.Claims.{AreInOrder as AllInOrder};
 ghost use Rattle.process_run.specs.Runs.{did};
 ghost use Rattle.process_run.specs.States.{DeedOn, Holding, Place, State as AProcess};
-ghost use Rattle.process_changes.specs.AtEnd.{AreAt, AreNew, AreSingle, ChangeAt, ToldAt};
+ghost use Rattle.process_changes.specs.AtEnd.{AreAt, AreNew, AreSingle, ChangeAt, IsToldAt, ToldAt};
 ghost use Rattle.process_changes.specs.Changes.{Changes};
-ghost use Rattle.process_changes.specs.Telling.{Aftermath, ChangesByStep, Turn};
+ghost use Rattle.process_changes.specs.Telling.{Aftermath, ChangesByStep, Telling, Turn};
 ghost use Rattle.request_runs.specs.Changing.{Becomes, IsFit, IsStandingOf};
 ghost use Rattle.request_runs.specs.Followed.{IsFollowed};
 ghost use Rattle.request_runs.specs.Law.{AreInOrder, HasAllEnds};
@@ -59,7 +59,13 @@ pub fn steps_change_ends()
     ensures { (s : AProcess) (given : Option AnAnswer) → ChangesByStep s given (did s given) }
 {}
 
-/// What a step of a process is told of an end is, where it is true, events at the link of that end, or none, with its deeds; and a message that is reported is the first that is coming.
+/// What a step of a process is told, seen at one end.
+pub fn tellings_are_seen_at_ends()
+    ensures { (version : ℕ) (t : Turn) (x : EndId) (ps : List Place) (ds : List DeedOn) (qs : List Place) → Telling version t ps ds qs → AreSingle ps
+        → IsToldAt version t x ps ds qs }
+{}
+
+/// Where it is true, that is events at the link of the end, or none, with its deeds; and a message that is reported is the first that is coming.
 pub fn tellings_are_events()
     ensures { (version : ℕ) (t : Turn) (x : EndId) (n : ℕ) (p : Pair) (g : Holding) (ds : List Deed) (h : Holding) (c : ToldAt version t x n g ds h)
         → IsStandingNow t n g p.near.standing → IsTrue version t x n p g ds h c → Becomes version p ds h (left version t x n g ds h c p.near.coming) }

@@ -10,7 +10,7 @@
 //! In a run of the service what is on its way between two ends is a list (`ways_are_lists`), from whose front a step takes the message of which it tells, and
 //! to which it adds the one that it sends (`ways_go_on`).
 //!
-//! A step of a process is changes of its ends (`steps_change_ends`). Seen at one end what
+//! A step of a process is changes of its ends (`steps_change_ends`). Seen at one end what it is told is one thing at most (`tellings_are_seen_at_ends`), and what
 //! comes of that and what its threads do is one change after the other (`aftermaths_are_seen_at_ends`, `changes_are_seen_at_ends`); and each is events at the link of
 //! that end, or none (`tellings_are_events`, `changes_are_events`), where what is told is true (`IsTrue` in `specs/Told.antt`) and the change fits (`IsFit` in
 //! `specs/Changing.antt`).
@@ -21,5 +21,5 @@ mod law;
 pub use law::{
     aftermaths_are_seen_at_ends, changes_are_events, changes_are_seen_at_ends, events_go_in_order,
     events_keep_ends, followed_runs_are_in_order, steps_change_ends, tellings_are_events,
-    ways_are_lists, ways_go_on,
+    tellings_are_seen_at_ends, ways_are_lists, ways_go_on,
 };
