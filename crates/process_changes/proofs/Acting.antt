@@ -15,14 +15,14 @@ use Rattle.process_run.specs.Actions.{acts, and_then, answers_on, asking, closes
 use Rattle.process_run.specs.Deaths.{destroys, does, raises}
 use Rattle.process_run.specs.Ends.{ends_at, held_at, hold_all, let_go, lets_go, link_of, links_in, values_of, with_holding}
 use Rattle.process_sound.proofs.Values.{links_counted}
-use Rattle.process_changes.specs.Changes.{Changes, ChangesBy, Destroys, Does, IsHeld, MayDo, None as NoChange, Then}
+use Rattle.process_changes.specs.Changes.{Changes, ChangesBy, Destroys, Does, IsHeld, MayDo, None as NoChange, RestWhole, Then}
 use Rattle.process_changes.proofs.Places.{Going, chain, goes_away, held_here, holds, just, raised_places, raised_version}
 
 -- nothing changes
 pub quiet : (s t : State) → t.places ≡ s.places → t.version ≡ s.version → ChangesBy s (quietly t)
 quiet s t places version = record { changes = subst (λ (ps : List Place). Changes s.version s.places [] ps) (sym places) (NoChange s.places); version = version }
 
-module _ (thread : ℕ) (s : State) where
+module _ (thread : ℕ) (s : State) (whole : RestWhole s.places) where
   -- ---- tests
 
   held_by : (n : ℕ) (next : Held → Done) → ((h : Held) → IsHeld h.number h.end h.kept s.places → ChangesBy s (next h)) → ChangesBy s (on_held thread (held_at n s) s next)
@@ -77,7 +77,7 @@ module _ (thread : ℕ) (s : State) where
   sends_with : (h : Held) (vs : List Value) (w : Happening) (t : State) → IsHeld h.number h.end h.kept s.places → fault_among h [] (links_in vs) s ≡ None → MayDo w h.kept →
       t.places ≡ with_holding h.number (Keeps (after s.version w h.kept)) (let_go (links_in vs) s.places) → t.version ≡ s.version → ChangesBy s (record { state = t; deeds = deeds_on h.end (deeds_of s.version w h.kept) })
   sends_with h vs w t there none may places version =
-      let going : Going h s s.version (links_in vs) [] s.places = goes_away h s s.version (links_in vs) [] s.places there none (λ m e. refl) refl in
+      let going : Going h s s.version (links_in vs) [] s.places = goes_away h s whole s.version (links_in vs) [] s.places there none (λ m e. refl) refl in
       record {
         changes = subst (λ (ps : List Place). Changes s.version s.places (deeds_on h.end (deeds_of s.version w h.kept)) ps) (sym places)
             (chain s.version s.places [] (let_go (links_in vs) s.places) _ _ going.changes
@@ -88,7 +88,7 @@ module _ (thread : ℕ) (s : State) where
   -- as many ends as links
   ends_many : (h : Held) (vs : List Value) → IsHeld h.number h.end h.kept s.places → fault_among h [] (links_in vs) s ≡ None → length (ends_at (links_in vs) s) ≡ links_of (values_of vs)
   ends_many h vs there none =
-      let going : Going h s s.version (links_in vs) [] s.places = goes_away h s s.version (links_in vs) [] s.places there none (λ m e. refl) refl in
+      let going : Going h s s.version (links_in vs) [] s.places = goes_away h s whole s.version (links_in vs) [] s.places there none (λ m e. refl) refl in
       going.many ∙ links_counted vs
 
   issues_by : (h : Held) (op : ℕ) (signature : List ℕ) (vs : List Value) → IsHeld h.number h.end h.kept s.places → h.kept.dead ≡ false → fault_among h [] (links_in vs) s ≡ None → ChangesBy s (issues (asking thread op signature vs s) h vs s)

@@ -12,9 +12,9 @@ use Rattle.process_run.specs.States.{DeedOn, Gone, Held, Holding, Keeps, Place, 
 use Rattle.process_run.specs.Actions.{fault_among, is_kept_back, link_fault, or_fault}
 use Rattle.process_run.specs.Deaths.{raises, raises_in}
 use Rattle.process_run.specs.Ends.{end_of, ends_at, held_at, held_in, held_of, hold_all, let_go, number_of, place_at, set_holding, with_holding}
-use Rattle.process_changes.specs.Changes.{Change, Changes, Holds, IsHeld, LetsGo, None as NoChange, Then}
+use Rattle.process_changes.specs.Changes.{Change, Changes, Holds, IsHeld, LetsGo, None as NoChange, RestWhole, Then}
 
-true_not_false : true ≡ false → ⊥
+pub true_not_false : true ≡ false → ⊥
 true_not_false e = cc
 
 -- ---- one after the other
@@ -44,7 +44,7 @@ raised_version (n ∷ ns) x s = raised_version ns x (raises n x s)
 
 -- ---- an end that is held
 
-same_some : {X : Type 0} (x y : X) → ◌≡◌ {A = Option X} (Some x) (Some y) → x ≡ y
+pub same_some : {X : Type 0} (x y : X) → ◌≡◌ {A = Option X} (Some x) (Some y) → x ≡ y
 same_some x y e = cc
 
 pub record IsHeldHere (n : ℕ) (h : Held) (ps : List Place) : Type 0 where
@@ -80,12 +80,16 @@ other_index (suc i) j g (p ∷ ps) other = by_rest (slice_get ps i) refl j other
         ap (λ (o : Option Place). slice_get (set_holding (suc i) g o (p ∷ ps)) (suc k)) e ∙ ap (λ (o : Option Place). slice_get (set_holding i g o ps) k) (sym e)
         ∙ rest k (λ same. away (ap suc same))
 
-other_place : (n m : ℕ) (g : Holding) (ps : List Place) → (n ≡ m → ⊥) → place_at m (with_holding n g ps) ≡ place_at m ps
+pub other_place : (n m : ℕ) (g : Holding) (ps : List Place) → (n ≡ m → ⊥) → place_at m (with_holding n g ps) ≡ place_at m ps
 other_place zero m g ps other = refl
 other_place (suc i) zero g ps other = refl
 other_place (suc i) (suc j) g ps other = other_index i j g ps (λ same. other (ap suc same))
 
 -- ---- ends that go with a message
+
+pub either_not : (a b : Bool) → (a || b) ≡ false → (a ≡ false) × (b ≡ false)
+either_not false b e = (refl, e)
+either_not true b e = let no : true ≡ false = e in absurd cc
 
 module _ (on : Held) (s : State) where
   -- these are held, each is another end than the one on which the message goes, and at rest
@@ -95,10 +99,6 @@ module _ (on : Held) (s : State) where
     pub new : list_any (λ i. i == held.number) before ≡ false
     pub elsewhere : same_link held.end on.end ≡ false
     pub rests : is_busy held.kept ≡ false
-
-  either_not : (a b : Bool) → (a || b) ≡ false → (a ≡ false) × (b ≡ false)
-  either_not false b e = (refl, e)
-  either_not true b e = let no : true ≡ false = e in absurd cc
 
   may_go : (n : ℕ) (before : List ℕ) (o : Option Held) → held_at n s ≡ o → link_fault on before o ≡ None → MayGo n before
   may_go n before None e fault = let no : ◌≡◌ {A = Option Exception} (Some exceptions.NoLink) None = fault in absurd cc
@@ -134,26 +134,26 @@ module _ (on : Held) (s : State) where
     pub same : place_at on.number (let_go ns ps) ≡ place_at on.number s.places
     pub many : length (ends_at ns s) ≡ length ns
 
-  goes_first : (version n : ℕ) (ns before : List ℕ) (ps : List Place) → (may : MayGo n before) → AreSame before ps → Going version ns (n ∷ before) (with_holding n (Gone false) ps) → Going version (n ∷ ns) before ps
-  goes_first version n ns before ps may same rest =
+  goes_first : RestWhole s.places → (version n : ℕ) (ns before : List ℕ) (ps : List Place) → (may : MayGo n before) → AreSame before ps → Going version ns (n ∷ before) (with_holding n (Gone false) ps) → Going version (n ∷ ns) before ps
+  goes_first whole version n ns before ps may same rest =
       let here = held_here n may.held s may.at in
       let number : may.held.number ≡ n = here.number in
-      let there : IsHeld n may.held.end may.held.kept ps =
-      same n (ap (λ (k : ℕ). list_any (λ i. i == k) before) (sym number) ∙ may.new) ∙ subst (λ (k : ℕ). IsHeld k may.held.end may.held.kept s.places) number here.there in
+      let was : IsHeld n may.held.end may.held.kept s.places = subst (λ (k : ℕ). IsHeld k may.held.end may.held.kept s.places) number here.there in
+      let there : IsHeld n may.held.end may.held.kept ps = same n (ap (λ (k : ℕ). list_any (λ i. i == k) before) (sym number) ∙ may.new) ∙ was in
       record {
-        changes = Then ps [] (with_holding n (Gone false) ps) [] (let_go ns (with_holding n (Gone false) ps)) (LetsGo n may.held.end may.held.kept ps there may.rests) rest.changes;
+        changes = Then ps [] (with_holding n (Gone false) ps) [] (let_go ns (with_holding n (Gone false) ps)) (LetsGo n may.held.end may.held.kept ps there may.rests (whole n may.held.end may.held.kept was may.rests)) rest.changes;
         same = rest.same;
         many =
             ap (λ (o : Option Held). length (end_of o ++ ends_at ns s)) may.at ∙ ap suc rest.many;
       }
 
-  pub goes_away : (version : ℕ) (ns before : List ℕ) (ps : List Place) → IsHeld on.number on.end on.kept s.places → fault_among on before ns s ≡ None → AreSame before ps → list_any (λ i. i == on.number) before ≡ false → Going version ns before ps
-  goes_away version [] before ps there fault same unnamed = record { changes = NoChange ps; same = same on.number unnamed; many = refl }
-  goes_away version (n ∷ ns) before ps there fault same unnamed =
+  pub goes_away : RestWhole s.places → (version : ℕ) (ns before : List ℕ) (ps : List Place) → IsHeld on.number on.end on.kept s.places → fault_among on before ns s ≡ None → AreSame before ps → list_any (λ i. i == on.number) before ≡ false → Going version ns before ps
+  goes_away whole version [] before ps there fault same unnamed = record { changes = NoChange ps; same = same on.number unnamed; many = refl }
+  goes_away whole version (n ∷ ns) before ps there fault same unnamed =
       let both = none_first (link_fault on before (held_at n s)) (fault_among on (n ∷ before) ns s) fault in
       let may = may_go n before (held_at n s) refl both.0 in
-      goes_first version n ns before ps may same
-      (goes_away version ns (n ∷ before) (with_holding n (Gone false) ps) there both.1 (others same) (away may))
+      goes_first whole version n ns before ps may same
+      (goes_away whole version ns (n ∷ before) (with_holding n (Gone false) ps) there both.1 (others same) (away may))
     where
       others : AreSame before ps → AreSame (n ∷ before) (with_holding n (Gone false) ps)
       others same m unnamed =

@@ -1,5 +1,6 @@
 -- What becomes of the ends of a process, one change after the other, and the deeds of that.
 use Rattle.std.specs.Prelude.{◌≡◌, Bool, false, ℕ, List, [], ◌++◌, length, map, Some, ⊤}
+use Rattle.std.specs.Prelude as prelude
 use Rattle.charlotte_calls.specs.declared.names.EndId.{EndId}
 use Rattle.lynx_packets.specs.Spelling.{links_of}
 use Rattle.end_protocol.specs.declared.kept.Kept.{Kept}
@@ -24,6 +25,14 @@ MayDo _ k = ⊥
 abbrev pub IsHeld : ℕ → EndId → Kept → List Place → Type 0
 IsHeld n x k ps = place_at n ps ≡ Some (record { end = x; holding = Keeps k })
 
+-- no request is in part on an end, unless that is dead
+abbrev pub IsWhole : Kept → Type 0
+IsWhole k = k.dead ≡ false → k.request ≡ prelude.None
+
+-- each end that is at rest is so
+abbrev pub RestWhole : List Place → Type 0
+RestWhole ps = (n : ℕ) (x : EndId) (k : Kept) → IsHeld n x k ps → is_busy k ≡ false → IsWhole k
+
 -- one change of the ends of a process, with its deeds
 pub data Change (version : ℕ) : List Place → List DeedOn → List Place → Type 0 where
   -- a thread does something at an end
@@ -31,8 +40,8 @@ pub data Change (version : ℕ) : List Place → List DeedOn → List Place → 
       → Change version ps (deeds_on x (deeds_of version h k)) (with_holding n (Keeps (after version h k)) ps)
   -- each allow that is due is queued
   Settle : (room : Bool) (ps : List Place) → Change version ps [] (map (settled_at room) ps)
-  -- an end that is at rest goes with a message
-  LetsGo : (n : ℕ) (x : EndId) (k : Kept) (ps : List Place) → IsHeld n x k ps → is_busy k ≡ false → Change version ps [] (with_holding n (Gone false) ps)
+  -- an end that is at rest goes with a message, and no request is in part there
+  LetsGo : (n : ℕ) (x : EndId) (k : Kept) (ps : List Place) → IsHeld n x k ps → is_busy k ≡ false → IsWhole k → Change version ps [] (with_holding n (Gone false) ps)
   -- an end is destroyed
   Destroys : (n : ℕ) (x : EndId) (k : Kept) (ps : List Place) → IsHeld n x k ps → Change version ps [] (with_holding n (Gone (returns k.sending)) ps)
   -- an end that was in a message or a connect is held again

@@ -2,7 +2,10 @@
 //! changes. Definitions and lemmas alone.
 //!
 //! # What is proved
-//! First what the answer tells (`Telling` in `specs/Telling.antt`), then what its threads do at ends that it holds, allows that are due, ends at rest that go
-//! with a message, ends that are destroyed and ends that are held again (`Change` in `specs/Changes.antt`): `step_changes` in `proofs/Steps.antt`. Nobody
-//! connects on a dead end, and each request and reply has an end for each link among its values.
+//! First what the answer tells, at one end at most and by that answer, and what comes of that (`Telling` and `Aftermath` in `specs/Telling.antt`), then what its
+//! threads do at ends that it holds, allows that are due, ends at rest that go with a message, ends that are destroyed and ends that are held again (`Change` in
+//! `specs/Changes.antt`): `step_changes` in `proofs/Steps.antt`. Nobody connects on a dead end, and each request and reply has an end for each link among its
+//! values. An end that goes has no request in part, unless it is dead (`rest_whole` in `proofs/Due.antt`).
+//!
+//! Seen at one end (`ToldAt` and `ChangeAt` in `specs/AtEnd.antt`): `told_at` and `changes_at` in `proofs/AtEnd.antt`, `after_at` in `proofs/Getting.antt`.
 #![tactic(auto)]

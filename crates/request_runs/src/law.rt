@@ -1,0 +1,89 @@
+ghost use Rattle.std.specs.Prelude.{◌≡◌, ◌||◌, false, ℕ, List, [], ◌∷◌, ◌++◌, Option};
+ghost use Rattle.charlotte_calls.specs.Setting.{IsValid};
+ghost use Rattle.charlotte_calls.specs.declared.calls.Answer.{Answer as AnAnswer};
+ghost use Rattle.charlotte_calls.specs.declared.calls.ServiceStep.{ServiceStep as AStep};
+ghost use Rattle.charlotte_calls.specs.declared.names.EndId.{EndId};
+ghost use Rattle.charlotte_calls.specs.declared.setting.Setting.{Setting as ASetting};
+ghost use Rattle.service_step.specs.Run.{IsServiceRun};
+ghost use Rattle.service_step.specs.State.{State};
+ghost use Rattle.service_step.specs.declared.state.Message.{Message};
+ghost use Rattle.service_streams.specs.Streams.{cancels_send};
+ghost use Rattle.end_protocol.specs.Deeds.{Deed};
+ghost use Rattle.language_links.specs.Acting.{Done};
+ghost use Rattle.language_links.specs.Claims.{AreInOrder as AllInOrder};
+ghost use Rattle.process_run.specs.Runs.{did};
+ghost use Rattle.process_run.specs.States.{DeedOn, Holding, Place, State as AProcess};
+ghost use Rattle.process_changes.specs.AtEnd.{AreAt, AreNew, AreSingle, ChangeAt, IsToldAt, ToldAt};
+ghost use Rattle.process_changes.specs.Changes.{Changes};
+ghost use Rattle.process_changes.specs.Telling.{Aftermath, ChangesByStep, Telling, Turn};
+ghost use Rattle.request_runs.specs.Changing.{Becomes, IsFit, IsStandingOf};
+ghost use Rattle.request_runs.specs.Followed.{IsFollowed};
+ghost use Rattle.request_runs.specs.Law.{AreInOrder, HasAllEnds};
+ghost use Rattle.request_runs.specs.Sides.{Courses, Pair, is_destroyed, new_pair};
+ghost use Rattle.request_runs.specs.Told.{IsStandingNow, IsTrue, left};
+ghost use Rattle.request_runs.specs.Ways.{HasWay, IsNextWay, IsWay};
+
+/// After any events at a link that was just made, requests were accepted at most once and in the order in which they were issued, and each connect that
+/// went on has the reply to its own request.
+pub fn events_go_in_order()
+    ensures { (version : ℕ) (p : Pair) → Courses version new_pair p → AreInOrder p }
+{}
+
+/// As long as the service destroyed neither end, each end of a request or reply that is under way is in one place: in a packet that is queued or on its
+/// way, with the request or reply in part, or with the connect.
+pub fn events_keep_ends()
+    ensures { (version : ℕ) (p : Pair) → Courses version new_pair p → is_destroyed p.near.standing || is_destroyed p.far.standing ≡ false → HasAllEnds p }
+{}
+
+/// Where the deeds of a run are, on each end and its opposite, those of events at a link, the claims on requests and replies hold of the run.
+pub fn followed_runs_are_in_order()
+    ensures { (version : ℕ) (ds : List Done) → ((x : EndId) → IsFollowed version x ds) → AllInOrder ds }
+{}
+
+/// In every run of the service what was sent on an end, after the messages of which the owners of its opposite were told, is a list, which may be empty:
+/// what is on its way there.
+pub fn ways_are_lists()
+    ensures { (s : ASetting) (run : List (AStep × State)) → IsValid s → IsServiceRun s run → (e : EndId) → HasWay e run }
+{}
+
+/// A step of the service that cancels no send takes from that list the message of which it tells, which is the first, and adds the one that it sends behind
+/// all others. So no other step changes it.
+pub fn ways_go_on()
+    ensures { (e : EndId) (past : List (AStep × State)) (made : AStep) (t : State) (before behind : List Message) → cancels_send e made ≡ false
+        → IsWay e past before → IsWay e (past ++ (made, t) ∷ []) behind → IsNextWay e made before behind }
+{}
+
+/// A step of a process changes its ends one after the other, first by what its answer tells and then by what its threads do; and its deeds are those of
+/// the changes.
+pub fn steps_change_ends()
+    ensures { (s : AProcess) (given : Option AnAnswer) → ChangesByStep s given (did s given) }
+{}
+
+/// What a step of a process is told, seen at one end.
+pub fn tellings_are_seen_at_ends()
+    ensures { (version : ℕ) (t : Turn) (x : EndId) (ps : List Place) (ds : List DeedOn) (qs : List Place) → Telling version t ps ds qs → AreSingle ps
+        → IsToldAt version t x ps ds qs }
+{}
+
+/// Where it is true, that is events at the link of the end, or none, with its deeds; and a message that is reported is the first that is coming.
+pub fn tellings_are_events()
+    ensures { (version : ℕ) (t : Turn) (x : EndId) (n : ℕ) (p : Pair) (g : Holding) (ds : List Deed) (h : Holding) (c : ToldAt version t x n g ds h)
+        → IsStandingNow t n g p.near.standing → IsTrue version t x n p g ds h c → Becomes version p ds h (left version t x n g ds h c p.near.coming) }
+{}
+
+/// What comes of it, seen at one end: one change after the other, where no end is got that the process holds, and it may get one more. An end that it gets
+/// is held from then on, as one that it holds again.
+pub fn aftermaths_are_seen_at_ends()
+    ensures { (version : ℕ) (x : EndId) (ps qs : List Place) (a : Aftermath version ps qs) → AreNew version ps qs a → AreSingle ps → AreAt version x ps [] qs }
+{}
+
+/// What a step of a process changes after what it was told, seen at one end: one change after the other, with the deeds on that end, in order.
+pub fn changes_are_seen_at_ends()
+    ensures { (version : ℕ) (x : EndId) (ps : List Place) (ds : List DeedOn) (qs : List Place) → Changes version ps ds qs → AreSingle ps → AreAt version x ps ds qs }
+{}
+
+/// Each of these changes is an event at the link of that end, or none, with its deeds.
+pub fn changes_are_events()
+    ensures { (version : ℕ) (p : Pair) (g : Holding) (ds : List Deed) (h : Holding) (c : ChangeAt version g ds h) → IsStandingOf g p.near.standing
+        → IsFit version p g ds h c → Becomes version p ds h p.near.coming }
+{}
