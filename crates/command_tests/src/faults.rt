@@ -19,7 +19,8 @@ const PLAN: &[u8] = b"kernels 1\nprocess 0 on 0 runs m\n";
 
 const QUIET: &str = "transcript 1\nkernels 1\nprocess 0 on 0\n1 k0 p0 exit\n. exit p0\nquiet\n";
 
-const SUMMARY: &str = "seed 1\ncalls 74\nwaits 4926\nnothing 4985\nevents 105\nrefused 25\nmatches 6\ntakes 6\ncompletes 6\n";
+const SUMMARY: &str =
+    "seed 1\ncalls 74\nwaits 4926\nnothing 4985\nevents 105\nrefused 25\nmatches 6\ntakes 6\ncompletes 6\n";
 
 const SPENT: &str = "transcript 1\nkernels 1\nprocess 0 on 0\n1 k0 p0 exit\n. exit p0\nspent 0\n";
 

@@ -10,12 +10,7 @@ use run_counts::summary_of;
 use std::alloc::Global;
 
 /// Performs the script of a seed, and puts its summary on out, one put a line: the nine lines are the counts over the run. It reads no file.
-pub fn bench_seed<O: Sink, E: Sink>(
-    alloc: Global,
-    seed: u32,
-    out: &mut O,
-    err: &mut E,
-) -> Status
+pub fn bench_seed<O: Sink, E: Sink>(alloc: Global, seed: u32, out: &mut O, err: &mut E) -> Status
     ensures { (course : Course) × Benches seed course × ((files : Source)
         → Took course result (outside files (O.state out.old) (E.state err.old)) (outside files (O.state out.new) (E.state err.new))) }
 {

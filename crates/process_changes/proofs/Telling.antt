@@ -338,7 +338,7 @@ module _ (s : State) (r : Report) where
       by_holding : (p : Place) (g : Holding) → p.holding ≡ g → place_at number s.places ≡ Some p → TellsBy s reporting (reported_in number g r s)
       by_holding p (Keeps k) is at =
           let same : p ≡ record { end = r.on; holding = Keeps k } =
-              ap (λ (x : EndId). record p { end = x }) (numbered r.on s.places p at) ∙ ap (λ (g : Holding). record { end = r.on; holding = g }) is in
+          ap (λ (x : EndId). record p { end = x }) (numbered r.on s.places p at) ∙ ap (λ (g : Holding). record { end = r.on; holding = g }) is in
           on_held_tells number k (at ∙ ap (λ (q : Place). Some q) same) r.way r.outcome refl refl
       by_holding p (Gone own) is at = off_tells own (ap (held_of number) at ∙ ap (held_in number p.end) is)
 

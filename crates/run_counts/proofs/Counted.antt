@@ -102,9 +102,11 @@ bare_kinds v ps = kind.First v ∷ kind.Kernels 0 ∷ flat_map entry_kinds ps ++
 bare_read : (v : ℕ) (ps : List Placed) → IsU8 v → All IsPlacedInRange ps → All (IsShown v) ps → AreLinesOf v (bare_lines v ps) (bare_kinds v ps)
 bare_read v ps small in_range shown = (
   record { text = codes "transcript " ++ number_text v; whole = refl; free = first_free v small; reads = first_reads v v small },
-  (kernels_line v 0 (omega arith),
-  subst (λ (lines : List (List ℕ)). AreLinesOf v (lines ++ line (last_text Quiet) ∷ []) (flat_map entry_kinds ps ++ kind.End Quiet ∷ [])) (sym (append-nil (flat_map entry_lines ps)))
-  (lines_append v (flat_map entry_lines ps) (line (last_text Quiet) ∷ []) (flat_map entry_kinds ps) (kind.End Quiet ∷ []) (entry_lines_of v ps in_range shown) (last_line v Quiet tt, tt))),
+  (
+    kernels_line v 0 (omega arith),
+    subst (λ (lines : List (List ℕ)). AreLinesOf v (lines ++ line (last_text Quiet) ∷ []) (flat_map entry_kinds ps ++ kind.End Quiet ∷ [])) (sym (append-nil (flat_map entry_lines ps)))
+        (lines_append v (flat_map entry_lines ps) (line (last_text Quiet) ∷ []) (flat_map entry_kinds ps) (kind.End Quiet ∷ []) (entry_lines_of v ps in_range shown) (last_line v Quiet tt, tt)),
+  ),
 )
 
 with_kinds-append : (ks js : List LineKind) (c : Counts) → with_kinds (ks ++ js) c ≡ with_kinds js (with_kinds ks c)

@@ -24,7 +24,12 @@ pub(crate) fn counts_of(
     ensures { IfOk result (λ counts. counts ≡ counts_of merged notes.now) }
 {
     let mut counts = Counts::none();
-    count_lines(alloc, version, bare_transcript(alloc, version, merged), &mut counts)?;
+    count_lines(
+        alloc,
+        version,
+        bare_transcript(alloc, version, merged),
+        &mut counts,
+    )?;
     count_notes(notes, &mut counts)?;
     Ok(counts)
 }
