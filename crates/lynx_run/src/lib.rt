@@ -11,11 +11,11 @@
 //! the link service; with status 0 it ends quiet, else a kernel used all its turns. Else the first failure, in the order file, text, work,
 //! for `run` plan, modules, params, gives the status and the one line on standard error, with the first line and least rule of a script or
 //! plan that is refused, the place of a module's first fault, for `code` and `run` also that its code is too long, or the line at which a
-//! transcript is not that of a run. The bytes are those that the command's reads answered, of real files too. Every other command fails by
-//! its name, and reads nothing.
-//! By clauses of `lynx`, `drive_file`, `check_file`, `code_file`, `audit_file` and `run_file`; `Answers`, `Drives`, `Checks`, `Codes`,
-//! `Audits`, `RunsPlan` in `specs/`; `lawful` of `IsDriven`; the laws
-//! `driven_is_audited`, `ran_is_audited`, `driven_is_one_text`, `each_command_is_complete` and `each_run_is_complete`.
+//! transcript is not that of a run. The bytes are those that the command's reads answered, of real files too. Of `bench`: it reads nothing, and
+//! with status 0 it got the summary of its seed, which is one text. Every other command fails by its name, and reads nothing.
+//! By clauses of `lynx`, `drive_file`, `check_file`, `code_file`, `audit_file`, `run_file` and `bench_seed`; `Answers`, `Drives`, `Checks`, `Codes`,
+//! `Audits`, `RunsPlan`, `Benches` in `specs/`; `lawful` of `IsDriven`; the laws `driven_is_audited`, `ran_is_audited`, `driven_is_one_text`,
+//! `benched_is_one_text`, `each_command_is_complete` and `each_run_is_complete`.
 #![tactic(auto)]
 
 mod audit;
