@@ -83,6 +83,7 @@ fn name(size: usize, bytes: &[u8]) -> Result<(&[u8], &[u8]), Unread>
 }
 
 /// Keeps the type that was told, if one was.
+#[inline(always)]
 fn keep(types: &mut Vec<TypeName>, told: Option<TypeName>) -> Result<(), AllocError>
     ensures { OnOk result (types.new.items ≡ types.old.items ++ listed told) }
 {
@@ -92,6 +93,7 @@ fn keep(types: &mut Vec<TypeName>, told: Option<TypeName>) -> Result<(), AllocEr
     Ok(())
 }
 
+#[inline(always)]
 fn links_in(told: Option<TypeName>) -> u8
     ensures { result ≡ link_told told }
 {
@@ -105,7 +107,8 @@ fn links_in(told: Option<TypeName>) -> u8
 fn types(alloc: Global, left: usize, bytes: &[u8]) -> Result<(Vec<TypeName>, &[u8]), Unread>
     ensures { Gives (λ x. (x.0.items, x.1.now)) result (types_at 8 left (spots.Opened Arguments) bytes.now) }
 {
-    let mut types = Vec::new(alloc);
+    // a type takes four bytes at least, with its comma
+    let mut types = Vec::with_capacity(alloc, left / 4)?;
     let mut links = MOST_LINKS;
     let mut spot = Spot::Opened(Part::Arguments);
     let mut left = left;

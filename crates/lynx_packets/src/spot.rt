@@ -47,6 +47,7 @@ pub(crate) enum Spot {
 
 impl Part {
     /// Whether a closing bracket may stand here, so many bytes before the end of the signature.
+    #[inline(always)]
     fn closes(self, left: usize) -> bool
         ensures { result ≡ closes self left }
     {
@@ -57,6 +58,7 @@ impl Part {
     }
 
     /// Whether a comma may stand here.
+    #[inline(always)]
     fn goes_on(self, left: usize) -> bool
         ensures { result ≡ goes_on self left }
     {
@@ -67,12 +69,14 @@ impl Part {
     }
 
     /// Whether the part can go on behind so many bytes more.
+    #[inline(always)]
     fn behind(self, left: usize, width: usize) -> bool
         ensures { result ≡ behind self left width }
     {
         width <= left && (self.closes(left - width) || self.goes_on(left - width))
     }
 
+    #[inline(always)]
     fn may_link(self, links: u8) -> bool
         ensures { result ≡ may_link self links }
     {
@@ -83,6 +87,7 @@ impl Part {
     }
 
     #[tactic(auto, unfolding(crate::specs::Spots::word_begun))]
+    #[inline(always)]
     fn begin(self, links: u8, left: usize, byte: u8) -> Option<Word>
         ensures { result ≡ word_begun self links left byte }
     {
@@ -96,6 +101,7 @@ impl Part {
         }
     }
 
+    #[inline(always)]
     fn start(self, links: u8, left: usize, byte: u8) -> Option<Spot>
         ensures { result ≡ started self (word_begun self links left byte) }
     {
@@ -105,6 +111,7 @@ impl Part {
         }
     }
 
+    #[inline(always)]
     fn closed(self) -> Spot
         ensures { result ≡ closed self }
     {
@@ -115,6 +122,7 @@ impl Part {
     }
 
     /// Behind an opening bracket.
+    #[inline(always)]
     fn open(self, links: u8, left: usize, byte: u8) -> Option<Spot>
         ensures { result ≡ opened_on links self left byte }
     {
@@ -125,6 +133,7 @@ impl Part {
     }
 
     /// Behind a type.
+    #[inline(always)]
     fn end(self, left: usize, byte: u8) -> Option<Spot>
         ensures { result ≡ ended_on self left byte }
     {
@@ -136,6 +145,7 @@ impl Part {
     }
 
     /// Behind `row`.
+    #[inline(always)]
     fn digit(self, left: usize, byte: u8) -> Option<Spot>
         ensures { result ≡ digits_on self left byte }
     {
@@ -147,6 +157,7 @@ impl Part {
     }
 
     /// Behind `row1`.
+    #[inline(always)]
     fn second_digit(self, left: usize, byte: u8) -> Option<Spot>
         ensures { result ≡ one_on self left byte }
     {
@@ -159,6 +170,7 @@ impl Part {
 }
 
 impl Word {
+    #[inline(always)]
     fn letters(self) -> &'static [u8]
         ensures { result.now ≡ letters_of self }
     {
@@ -172,6 +184,7 @@ impl Word {
     }
 
     /// The type, but of a row.
+    #[inline(always)]
     fn kind(self) -> Option<TypeName>
         ensures { result ≡ type_of_word self }
     {
@@ -184,6 +197,7 @@ impl Word {
         }
     }
 
+    #[inline(always)]
     fn is_last(self, at: usize) -> bool
         ensures { result ≡ is_last self at }
     {
@@ -191,6 +205,7 @@ impl Word {
     }
 
     /// Behind the last letter.
+    #[inline(always)]
     fn end(self, part: Part) -> Spot
         ensures { result ≡ worded part self }
     {
@@ -201,6 +216,7 @@ impl Word {
     }
 
     /// Behind the letter at this place, if it is the byte.
+    #[inline(always)]
     fn letter(self, part: Part, at: usize, byte: u8) -> Option<Spot>
         ensures { result ≡ letter_on part self at byte }
     {
@@ -216,6 +232,7 @@ impl Word {
 }
 
 impl Spot {
+    #[inline(always)]
     pub(crate) fn is_done(self) -> bool
         ensures { result ≡ is_done self }
     {
@@ -225,6 +242,7 @@ impl Spot {
     /// Behind one more byte, where so many bytes of the signature are left with this one, and so many links may still come among the
     /// arguments. None where no signature of this size goes on so.
     #[tactic(auto, unfolding(crate::specs::Spots::next_spot))]
+    #[inline(always)]
     pub(crate) fn next(self, links: u8, left: usize, byte: u8) -> Option<Spot>
         ensures { result ≡ next_spot links left self byte }
     {
@@ -243,6 +261,7 @@ impl Spot {
 
     /// The argument's type that is known to be whole at this byte.
     #[tactic(auto, unfolding(crate::specs::Spots::type_told))]
+    #[inline(always)]
     pub(crate) fn told(self, byte: u8) -> Option<TypeName>
         ensures { result ≡ type_told self byte }
     {

@@ -132,7 +132,7 @@ pub(crate) fn arguments<'b>(
     requires { All (λ t. IsTrue (has_length t)) kinds.now }
     ensures { Gives (λ x. (x.0.items, x.1.now)) result (arguments_at kinds.now bytes.now) }
 {
-    let mut values = Vec::new(alloc);
+    let mut values = Vec::with_capacity(alloc, kinds.len())?;
     let mut rest = bytes;
     for kind in kinds {
         let (value, after) = typed(*kind, rest)?;

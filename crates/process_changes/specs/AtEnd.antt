@@ -46,7 +46,8 @@ pub data ChangeAt (version : ℕ) : Holding → List Deed → Holding → Type 0
 -- one after the other
 pub data ChangesAt (version : ℕ) : Holding → List Deed → Holding → Type 0 where
   None : (g : Holding) → ChangesAt version g [] g
-  Then : (f : Holding) (ds : List Deed) (g : Holding) (es : List Deed) (h : Holding) → ChangeAt version f ds g → ChangesAt version g es h → ChangesAt version f (ds ++ es) h
+  Then : (f : Holding) (ds : List Deed) (g : Holding) (es : List Deed) (h : Holding) → ChangeAt version f ds g → ChangesAt version g es h
+      → ChangesAt version f (ds ++ es) h
 
 -- the changes are these at one end, and afterwards no end is held under two numbers
 pub record AreAt (version : ℕ) (x : EndId) (ps : List Place) (ds : List DeedOn) (qs : List Place) : Type 0 where

@@ -41,7 +41,8 @@ pub data Change (version : ℕ) : List Place → List DeedOn → List Place → 
   -- each allow that is due is queued
   Settle : (room : Bool) (ps : List Place) → Change version ps [] (map (settled_at room) ps)
   -- an end that is at rest goes with a message, and no request is in part there
-  LetsGo : (n : ℕ) (x : EndId) (k : Kept) (ps : List Place) → IsHeld n x k ps → is_busy k ≡ false → IsWhole k → Change version ps [] (with_holding n (Gone false) ps)
+  LetsGo : (n : ℕ) (x : EndId) (k : Kept) (ps : List Place) → IsHeld n x k ps → is_busy k ≡ false → IsWhole k
+      → Change version ps [] (with_holding n (Gone false) ps)
   -- an end is destroyed
   Destroys : (n : ℕ) (x : EndId) (k : Kept) (ps : List Place) → IsHeld n x k ps → Change version ps [] (with_holding n (Gone (returns k.sending)) ps)
   -- an end that was in a message or a connect is held again
@@ -50,7 +51,8 @@ pub data Change (version : ℕ) : List Place → List DeedOn → List Place → 
 -- one after the other
 pub data Changes (version : ℕ) : List Place → List DeedOn → List Place → Type 0 where
   None : (ps : List Place) → Changes version ps [] ps
-  Then : (ps : List Place) (ds : List DeedOn) (qs : List Place) (es : List DeedOn) (rs : List Place) → Change version ps ds qs → Changes version qs es rs → Changes version ps (ds ++ es) rs
+  Then : (ps : List Place) (ds : List DeedOn) (qs : List Place) (es : List DeedOn) (rs : List Place) → Change version ps ds qs → Changes version qs es rs
+      → Changes version ps (ds ++ es) rs
 
 -- what is done changes the ends so, and the version not at all
 pub record ChangesBy (s : State) (d : Done) : Type 0 where

@@ -79,7 +79,8 @@ abbrev pub asked_in : List Next → List Call
 asked_in ns = flat_map asked_of ns
 
 -- What process i does in a run is a process run: given these answers its program makes its calls, and its deeds, in as many steps
-pub record IsRunBy (s : Setting) (programs : ℕ → Program) (merged : List Placed) (made : ℕ → ℕ) (a : AreActed s programs merged made) (i : ℕ) : Type 0 where
+pub record IsRunBy (s : Setting) (programs : ℕ → Program) (merged : List Placed) (made : ℕ → ℕ) (a : AreActed s programs merged made) (i : ℕ)
+    : Type 0 where
   pub given : List (Option Answer)
   pub count : length given ≡ made i
   pub deeds : deeds_by i (deeds_of s programs merged made a) ≡ run_deeds (start_of s.version (programs i).code (programs i).ends) given

@@ -23,14 +23,16 @@ abbrev pub states_of : (s : Setting) (merged : List Placed) → IsLawfulRecord s
 states_of s merged lawful n = state_after (start_state s) (joined (take n lawful.lawfully.served.parts))
 
 -- requests are accepted at most once and in order, replies go to their requests, and the ends that both carry are where they should be
-pub record AreLinked (s : Setting) (programs : ℕ → Program) (merged : List Placed) (steps : ℕ → ℕ) (lawful : IsLawfulRecord s merged) (acted : AreActed s programs merged steps) : Type 0 where
+pub record AreLinked (s : Setting) (programs : ℕ → Program) (merged : List Placed) (steps : ℕ → ℕ) (lawful : IsLawfulRecord s merged)
+    (acted : AreActed s programs merged steps) : Type 0 where
   pub in_order : AreInOrder (deeds_of s programs merged steps acted)
   pub carried : AreCarried (states_of s merged lawful) (length merged) (deeds_of s programs merged steps acted)
 
 -- It is so in each replay of all processes over the entries of a run. This is not proved yet
 abbrev pub ActsAreLinked : Type 0
 ActsAreLinked =
-    (s : Setting) (programs : ℕ → Program) (merged : List Placed) (steps : ℕ → ℕ) (lawful : IsLawfulRecord s merged) → IsValid s → length merged ≤ 2 ^ 28 → AreWired s programs
+    (s : Setting) (programs : ℕ → Program) (merged : List Placed) (steps : ℕ → ℕ) (lawful : IsLawfulRecord s merged)
+    → IsValid s → length merged ≤ 2 ^ 28 → AreWired s programs
     → (acted : AreActed s programs merged steps) → AreLinked s programs merged steps lawful acted
 
 -- a run has deeds, and they are so

@@ -18,7 +18,7 @@ use Rattle.request_meaning.specs.Links.{Cut, Died, Goes as Run, Happened, Heard 
 use Rattle.request_law.proofs.Lists.{front_self}
 use Rattle.request_law.proofs.Ends.{run_ends}
 use Rattle.request_law.proofs.Run.{run_is_exchanged}
-use Rattle.request_runs.specs.Law.{AreInOrder, HasAllEnds}
+use Rattle.request_runs.specs.Law.{AreExchangedBoth, HasAllEnds}
 use Rattle.request_runs.specs.Sides.{Courses, Destroyed, Destroys, Dies, Does, Drops, Events, Flipped, Free, Goes, Hears, Held, Holds, IsAs, IsComing, IsKept, IsOver, LetsGo, Loses, Lost, Pair, Passes, Rests, Sends, Standing, comes, did, flipped, hearing, is_destroyed, new_pair, sending, stands}
 use Rattle.request_runs.proofs.Whole.{AreWhole, StandsWhole, event_whole}
 
@@ -330,7 +330,7 @@ module _ (version : ℕ) where
   so_exchanged : (ds es bs cs : List Deed) → es ≡ ds → cs ≡ bs → AreExchanged es cs → AreExchanged ds bs
   so_exchanged ds es bs cs one two is = subst (λ (l : List Deed). AreExchanged l bs) one (subst (λ (l : List Deed). AreExchanged es l) two is)
 
-  pub goes_in_order : (p : Pair) → Courses version new_pair p → AreInOrder p
+  pub goes_in_order : (p : Pair) → Courses version new_pair p → AreExchangedBoth p
   goes_in_order p course =
       let f : Follows p start = from_start p course in
       let both = run_is_exchanged version f.to f.runs in

@@ -5,7 +5,7 @@ use Rattle.request_law.specs.Law.{AreAllThere}
 use Rattle.request_runs.specs.Sides.{IsAs, Pair}
 
 -- the claims on requests and replies, seen from either end
-pub record AreInOrder (p : Pair) : Type 0 where
+pub record AreExchangedBoth (p : Pair) : Type 0 where
   pub near : AreExchanged p.near_deeds p.far_deeds
   pub far : AreExchanged p.far_deeds p.near_deeds
 

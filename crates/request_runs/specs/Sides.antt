@@ -84,14 +84,17 @@ pub data Events (version : ℕ) : Pair → Pair → Type 0 where
   Does : (h : Happening) (k : Kept) (p : Pair) → p.near.standing ≡ Held k → MayHappen h k
       → Events version p (did (deeds_of version h k) (stands (Held (after version h k)) p))
   -- the first message of the queue is sent
-  Sends : (m : Message) (rest : List Message) (k : Kept) (p : Pair) → p.near.standing ≡ Held k → k.queue ≡ m ∷ rest → Events version p (sending version m k p)
+  Sends : (m : Message) (rest : List Message) (k : Kept) (p : Pair) → p.near.standing ≡ Held k → k.queue ≡ m ∷ rest
+      → Events version p (sending version m k p)
   -- a message is heard that can be read
   Hears : (room : Bool) (m : Message) (rest : List Message) (k : Kept) (p : Pair) → p.near.standing ≡ Held k → p.near.coming ≡ m ∷ rest
-      → ((xs : List EndId) → (hears version room m.packet m.ends k).1 ≡ heard.Unreadable xs → ⊥) → Events version p (hearing version room m rest k p)
+      → ((xs : List EndId) → (hears version room m.packet m.ends k).1 ≡ heard.Unreadable xs → ⊥)
+      → Events version p (hearing version room m rest k p)
   -- its owner is told that the link is dead
   Dies : (k : Kept) (p : Pair) → p.near.standing ≡ Held k → p.far.standing ≡ Destroyed → Events version p (stands (Held (dies k)) p)
   -- it goes with a message: it is at rest, and unless it is dead without a request in part. Over a link that is dead nothing is coming
-  LetsGo : (k : Kept) (p : Pair) → p.near.standing ≡ Held k → is_busy k ≡ false → (k.dead ≡ false → k.request ≡ None) → (p.far.standing ≡ Destroyed → p.near.coming ≡ [])
+  LetsGo : (k : Kept) (p : Pair) → p.near.standing ≡ Held k → is_busy k ≡ false → (k.dead ≡ false → k.request ≡ None)
+      → (p.far.standing ≡ Destroyed → p.near.coming ≡ [])
       → Events version p (stands Free p)
   -- a process gets it, or its owner holds it again
   Holds : (p : Pair) → p.near.standing ≡ Free → Events version p (stands (Held fresh) p)

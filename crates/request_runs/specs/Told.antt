@@ -41,7 +41,8 @@ pub record IsFirst (version : ℕ) (bytes : List ℕ) (xs : List EndId) (ms : Li
   pub ends : message.ends ≡ xs
 
 -- what is reported is the first that is coming, and a link is dead of which the service destroyed the other end
-abbrev pub IsTrue : (version : ℕ) (t : Turn) (x : EndId) (n : ℕ) → Pair → (g : Holding) (ds : List Deed) (h : Holding) → ToldAt version t x n g ds h → Type 0
+abbrev pub IsTrue : (version : ℕ) (t : Turn) (x : EndId) (n : ℕ) → Pair
+    → (g : Holding) (ds : List Deed) (h : Holding) → ToldAt version t x n g ds h → Type 0
 IsTrue version t x n p g ds h (told.Otherwise f untold) = ⊤
 IsTrue version t x n p g ds h (told.Answers k what is) = ⊤
 IsTrue version t x n p g ds h (told.Hears k room bytes packet xs brings spelled readable) = IsFirst version bytes xs p.near.coming
@@ -51,7 +52,8 @@ IsTrue version t x n p g ds h (told.Dies k death) = p.far.standing ≡ Destroyed
 IsTrue version t x n p g ds h (told.DiesWith k what death) = p.far.standing ≡ Destroyed
 
 -- what is coming afterwards
-abbrev pub left : (version : ℕ) (t : Turn) (x : EndId) (n : ℕ) (g : Holding) (ds : List Deed) (h : Holding) → ToldAt version t x n g ds h → List Message → List Message
+abbrev pub left : (version : ℕ) (t : Turn) (x : EndId) (n : ℕ) (g : Holding) (ds : List Deed) (h : Holding) → ToldAt version t x n g ds h
+    → List Message → List Message
 left version t x n g ds h (told.Hears k room bytes packet xs brings spelled readable) ms = tail ms
 left version t x n g ds h (told.Breaks k own bytes xs brings) ms = tail ms
 left version t x n g ds h _ ms = ms

@@ -10,7 +10,7 @@ ghost use Rattle.service_step.specs.declared.state.Message.{Message};
 ghost use Rattle.service_streams.specs.Streams.{cancels_send};
 ghost use Rattle.end_protocol.specs.Deeds.{Deed};
 ghost use Rattle.language_links.specs.Acting.{Done};
-ghost use Rattle.language_links.specs.Claims.{AreInOrder as AllInOrder};
+ghost use Rattle.language_links.specs.Claims.{AreInOrder};
 ghost use Rattle.process_run.specs.Runs.{did};
 ghost use Rattle.process_run.specs.States.{DeedOn, Holding, Place, State as AProcess};
 ghost use Rattle.process_changes.specs.AtEnd.{AreAt, AreNew, AreSingle, ChangeAt, IsToldAt, ToldAt};
@@ -18,7 +18,7 @@ ghost use Rattle.process_changes.specs.Changes.{Changes};
 ghost use Rattle.process_changes.specs.Telling.{Aftermath, ChangesByStep, Telling, Turn};
 ghost use Rattle.request_runs.specs.Changing.{Becomes, IsFit, IsStandingOf};
 ghost use Rattle.request_runs.specs.Followed.{IsFollowed};
-ghost use Rattle.request_runs.specs.Law.{AreInOrder, HasAllEnds};
+ghost use Rattle.request_runs.specs.Law.{AreExchangedBoth, HasAllEnds};
 ghost use Rattle.request_runs.specs.Sides.{Courses, Pair, is_destroyed, new_pair};
 ghost use Rattle.request_runs.specs.Told.{IsStandingNow, IsTrue, left};
 ghost use Rattle.request_runs.specs.Ways.{HasWay, IsNextWay, IsWay};
@@ -26,7 +26,7 @@ ghost use Rattle.request_runs.specs.Ways.{HasWay, IsNextWay, IsWay};
 /// After any events at a link that was just made, requests were accepted at most once and in the order in which they were issued, and each connect that
 /// went on has the reply to its own request.
 pub fn events_go_in_order()
-    ensures { (version : ℕ) (p : Pair) → Courses version new_pair p → AreInOrder p }
+    ensures { (version : ℕ) (p : Pair) → Courses version new_pair p → AreExchangedBoth p }
 {}
 
 /// As long as the service destroyed neither end, each end of a request or reply that is under way is in one place: in a packet that is queued or on its
@@ -37,7 +37,7 @@ pub fn events_keep_ends()
 
 /// Where the deeds of a run are, on each end and its opposite, those of events at a link, the claims on requests and replies hold of the run.
 pub fn followed_runs_are_in_order()
-    ensures { (version : ℕ) (ds : List Done) → ((x : EndId) → IsFollowed version x ds) → AllInOrder ds }
+    ensures { (version : ℕ) (ds : List Done) → ((x : EndId) → IsFollowed version x ds) → AreInOrder ds }
 {}
 
 /// In every run of the service what was sent on an end, after the messages of which the owners of its opposite were told, is a list, which may be empty:

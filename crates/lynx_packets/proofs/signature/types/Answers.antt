@@ -10,7 +10,7 @@ use Rattle.lynx_packets.proofs.signature.types.Goals as goal
 
 pub returns-in_err-byte : goal.returns-in_err-byte
 returns-in_err-byte c =
-    let p = err_from_is_err_and c.from_residual.result c.from_residual.ensures.1 in
+    let p = err_from_is_err_and c.from_residual-in_err-byte.result c.from_residual-in_err-byte.ensures.1 in
     let s = c.loop-spot in
     let going : is_done s.spot ≡ false = search rules in
     let total = types_at 8 c.args.left (spots.Opened Arguments) c.args.bytes.now in

@@ -8,7 +8,7 @@ use Rattle.lynx_packets.proofs.values.arguments.Goals as goal
 
 pub returns-in_err-value : goal.returns-in_err-value
 returns-in_err-value c =
-    let p = err_from_is_err_and c.from_residual.result c.from_residual.ensures.1 in
+    let p = err_from_is_err_and c.from_residual-in_err-value.result c.from_residual-in_err-value.ensures.1 in
     let e = c.in_err-value.field-0.0 in
     let ts = c.args.kinds.now in
     let i = c.loop-kind.kind-index in
