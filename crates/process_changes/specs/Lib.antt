@@ -1,3 +1,4 @@
+pub mod Ledgers
 pub mod Changes
 pub mod Telling
 pub mod AtEnd

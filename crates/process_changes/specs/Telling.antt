@@ -1,4 +1,4 @@
--- What an answer or a report makes of the ends of a process: one change at the end that it is about, and then what comes of that.
+-- What an answer or a report makes of the ends of a process: one change at the end that it is about, and then what comes of that; and a whole step.
 use Rattle.std.specs.Prelude.{◌≡◌, ◌⊎◌, Bool, ℕ, List, [], ◌++◌, Option, Some, Ok, Err, ⊤}
 use Rattle.std.specs.Prelude as prelude
 use Rattle.charlotte_calls.specs.declared.calls.Answer.{Answer}
@@ -18,11 +18,12 @@ use Rattle.end_protocol.specs.Falling.{dies}
 use Rattle.end_protocol.specs.Going.{receive_over, returns}
 use Rattle.end_protocol.specs.Happenings.{Happening, Sends, SendOver, Receives, ReceiveOver, CancelLate, after}
 use Rattle.end_protocol.specs.Hearing.{hears}
-use Rattle.process_run.specs.States.{Asked, DeedOn, Done, Gone, Keeps, Place, State, deeds_on}
+use Rattle.process_run.specs.States.{Asked, DeedOn, Gone, Keeps, Place, State, deeds_on}
 use Rattle.process_run.specs.States as process
-use Rattle.process_run.specs.Ends.{gets_one, held_of, number_of, place_at, with_holding}
+use Rattle.process_run.specs.Ends.{held_of, number_of, place_at, with_holding}
 use Rattle.process_run.specs.Runs.{Did}
-use Rattle.process_changes.specs.Changes.{Change, Changes, IsHeld}
+use Rattle.process_changes.specs.Changes.{AreLeft, Changes, IsHeld}
+use Rattle.process_changes.specs.Ledgers.{Ledger, brought, came_with, given_back, ledger}
 
 -- ---- what is told of an end
 
@@ -99,46 +100,50 @@ abbrev pub IsReadable : Heard → Type 0
 IsReadable (heard.Unreadable xs) = ⊥
 IsReadable _ = ⊤
 
--- at one end at most
-pub data Telling (version : ℕ) (t : Turn) : List Place → List DeedOn → List Place → Type 0 where
-  Silent : (ps : List Place) → IsSilent t.asked t.given ps → Telling version t ps [] ps
-  Answers : (n : ℕ) (x : EndId) (k : Kept) (h : Happening) (ps : List Place) → IsHeld n x k ps → IsAnswer t n x h
-      → Telling version t ps [] (with_holding n (Keeps (after version h k)) ps)
+-- at one end at most. What comes with a message is in the hand, and so is what an end gives back that dies or is destroyed
+pub data Telling (version : ℕ) (t : Turn) : Ledger → List DeedOn → Ledger → Type 0 where
+  Silent : (b : Ledger) → IsSilent t.asked t.given b.places → Telling version t b [] b
+  Answers : (n : ℕ) (x : EndId) (k : Kept) (h : Happening) (b : Ledger) → IsHeld n x k b.places → IsAnswer t n x h
+      → Telling version t b [] (record b { places = with_holding n (Keeps (after version h k)) b.places })
   -- a receive is reported, which brings a packet with these ends that can be read
-  Hears : (n : ℕ) (x : EndId) (k : Kept) (room : Bool) (bytes : List ℕ) (packet : RtPacket) (xs : List EndId) (ps : List Place) → IsHeld n x k ps
-      → Brings t x bytes xs → packet_of version bytes ≡ Ok packet → IsReadable (hears version room packet xs (receive_over k)).1
-      → Telling version t ps (deeds_on x (heard_deeds (hears version room packet xs (receive_over k)).1)) (with_holding n (Keeps (hears version room packet xs (receive_over k)).0) ps)
+  Hears : (n : ℕ) (x : EndId) (k : Kept) (room : Bool) (bytes : List ℕ) (packet : RtPacket) (xs : List EndId) (b : Ledger) → IsHeld n x k b.places
+      → Brings t x bytes xs → packet_of version bytes ≡ Ok packet → b.hand ≡ xs
+      → IsReadable (hears version room packet xs (receive_over k)).1
+      → Telling version t b (deeds_on x (heard_deeds (hears version room packet xs (receive_over k)).1))
+      (record b {
+        places = with_holding n (Keeps (hears version room packet xs (receive_over k)).0) b.places;
+        hand = came_with (hears version room packet xs (receive_over k)).1;
+      })
   -- it brings bytes that spell no packet, to a dead end; or what it brings can't be read, and the end is destroyed
-  Ignores : (n : ℕ) (x : EndId) (k : Kept) (bytes : List ℕ) (left : ℕ) (xs : List EndId) (ps : List Place) → IsHeld n x k ps
-      → Brings t x bytes xs → packet_of version bytes ≡ Err left → Telling version t ps [] (with_holding n (Keeps (receive_over k)) ps)
-  Breaks : (n : ℕ) (x : EndId) (k j : Kept) (bytes : List ℕ) (xs : List EndId) (ps : List Place) → IsHeld n x k ps
-      → Brings t x bytes xs → Telling version t ps [] (with_holding n (Gone (returns j.sending)) (with_holding n (Keeps j) ps))
+  Ignores : (n : ℕ) (x : EndId) (k : Kept) (bytes : List ℕ) (left : ℕ) (xs : List EndId) (b : Ledger) → IsHeld n x k b.places
+      → Brings t x bytes xs → packet_of version bytes ≡ Err left
+      → Telling version t b [] (record b { places = with_holding n (Keeps (receive_over k)) b.places })
+  Breaks : (n : ℕ) (x : EndId) (k : Kept) (bytes : List ℕ) (xs : List EndId) (b : Ledger) → IsHeld n x k b.places
+      → Brings t x bytes xs
+      → Telling version t b []
+      (record {
+        places = with_holding n (Gone (returns k.sending)) (with_holding n (Keeps (receive_over k)) b.places);
+        doomed = b.doomed ++ x ∷ [];
+        hand = given_back (receive_over k) ++ b.hand;
+      })
   -- the link is dead
-  Dies : (n : ℕ) (x : EndId) (k : Kept) (ps : List Place) → IsHeld n x k ps → IsDeath t n → Telling version t ps [] (with_holding n (Keeps (dies k)) ps)
-  DiesWith : (n : ℕ) (x : EndId) (k : Kept) (h : Happening) (ps : List Place) → IsHeld n x k ps → IsDeathWith t n x h
-      → Telling version t ps [] (with_holding n (Keeps (dies (after version h k))) ps)
-
--- ---- what comes of it
-
--- ends are destroyed, are held again, or are got
-pub data Aftermath (version : ℕ) : List Place → List Place → Type 0 where
-  None : (ps : List Place) → Aftermath version ps ps
-  Of : (ps qs rs : List Place) → Change version ps [] qs → Aftermath version qs rs → Aftermath version ps rs
-  Gets : (x : EndId) (ps qs : List Place) → Aftermath version (gets_one x ps) qs → Aftermath version ps qs
-
-pub record TellsBy (s : State) (t : Turn) (d : Done) : Type 0 where
-  pub middle : List Place
-  pub telling : Telling s.version t s.places d.deeds middle
-  pub aftermath : Aftermath s.version middle d.state.places
-  pub version : d.state.version ≡ s.version
+  Dies : (n : ℕ) (x : EndId) (k : Kept) (b : Ledger) → IsHeld n x k b.places → IsDeath t n
+      → Telling version t b [] (record b { places = with_holding n (Keeps (dies k)) b.places; hand = given_back k ++ b.hand })
+  DiesWith : (n : ℕ) (x : EndId) (k : Kept) (h : Happening) (b : Ledger) → IsHeld n x k b.places → IsDeathWith t n x h
+      → Telling version t b []
+      (record b { places = with_holding n (Keeps (dies (after version h k))) b.places; hand = given_back (after version h k) ++ b.hand })
 
 -- ---- a step
 
--- first what its answer tells, and then what its threads do
+-- First what its answer tells, with what that brings in the hand, and then what comes of it and what its threads do
 pub record ChangesByStep (s : State) (given : Option Answer) (d : Did) : Type 0 where
-  pub told : Done
-  pub telling : TellsBy s (record { asked = s.asked; given = given }) told
+  pub told : Ledger
+  pub told_deeds : List DeedOn
+  pub telling : Telling s.version (record { asked = s.asked; given = given }) (ledger s (brought given)) told_deeds told
+  pub last : Ledger
   pub deeds : List DeedOn
-  pub changes : Changes s.version told.state.places deeds d.state.places
-  pub all : d.deeds ≡ told.deeds ++ deeds
+  pub changes : Changes s.version told deeds last
+  pub all : d.deeds ≡ told_deeds ++ deeds
+  pub places : last.places ≡ d.state.places
+  pub left : AreLeft d.next last.doomed d.state.doomed
   pub version : d.state.version ≡ s.version
