@@ -1,0 +1,4 @@
+pub mod Coming
+pub mod Moves
+pub mod Phases
+pub mod Deaths
