@@ -1,4 +1,5 @@
 pub mod Ledgers
 pub mod Changes
+pub mod Asking
 pub mod Telling
 pub mod AtEnd
