@@ -26,23 +26,20 @@ use Rattle.end_protocol.specs.declared.kept.Receiving.TheVariants as receiving
 use Rattle.end_protocol.specs.declared.messages.Message.{Message}
 use Rattle.end_protocol.specs.Deeds.{Deed}
 use Rattle.process_run.specs.States.{Gone, Holding, Keeps}
-use Rattle.process_run.specs.States as process
+use Rattle.process_run.specs.States as asked
 use Rattle.process_run.specs.Ends.{number_of}
 use Rattle.process_changes.specs.AtEnd.{AreSingle, Seen, total}
 use Rattle.process_changes.specs.Ledgers.{brought}
 use Rattle.process_changes.specs.Telling.{IsTold, Turn}
 use Rattle.process_sound.specs.Processes.{IsRunning}
 use Rattle.request_runs.specs.Sides.{Courses, Destroyed, Free, Held, Lost, Pair, Side, Standing, new_pair, new_side}
+use Rattle.request_acts.specs.Acted.{process}
 use Rattle.followed_links.specs.Owners.{IsAskedFor, Owner, Status, given_of, phase_of, seen_of, turn_of}
 use Rattle.followed_links.specs.Owners as owners
 
 -- the owner of each number
 abbrev pub Owners : Type 0
 Owners = ℕ → Owner
-
--- the process of a number
-abbrev pub process : ℕ → Pid
-process i = record { 0 = i }
 
 abbrev pub IsAlive : Owner → Type 0
 IsAlive o = phase_of o.status ≡ phase.Ended → ⊥
@@ -104,7 +101,7 @@ IsStandingIn n a (Gone own) s = ((s ≡ Free) ⊎ (s ≡ Lost)) × (1 ≤ a.out 
 
 -- a receive is started on the end, or was answered
 abbrev pub HasReceive : Turn → ℕ → Holding → Type 0
-HasReceive t n (Keeps k) = (k.receiving ≡ receiving.Idle → ⊥) ⊎ IsTold t (process.Receive n) answer.Ok
+HasReceive t n (Keeps k) = (k.receiving ≡ receiving.Idle → ⊥) ⊎ IsTold t (asked.Receive n) answer.Ok
 HasReceive t n (Gone own) = ⊥
 
 -- how an end stands that this process owns, and what is coming to it
