@@ -4,11 +4,12 @@ use Rattle.std.specs.Prelude as prelude
 use Rattle.charlotte_calls.specs.Names.{opposite}
 use Rattle.charlotte_calls.specs.declared.calls.Answer.{Answer}
 use Rattle.charlotte_calls.specs.declared.calls.Answer.TheVariants as answer
-use Rattle.charlotte_calls.specs.declared.calls.Call.{Call}
+use Rattle.charlotte_calls.specs.declared.calls.Call.TheVariants as call
 use Rattle.charlotte_calls.specs.declared.calls.Cause.TheVariants as cause
+use Rattle.charlotte_calls.specs.declared.calls.Report.{Report}
 use Rattle.charlotte_calls.specs.declared.names.EndId.{EndId}
 use Rattle.charlotte_calls.specs.declared.names.Outcome.TheVariants as outcome
-use Rattle.charlotte_calls.specs.declared.names.Pid.{Pid}
+use Rattle.charlotte_calls.specs.declared.names.Way.TheVariants as way
 use Rattle.service_lawful.specs.Consistent.{IsConsistent}
 use Rattle.service_step.specs.State.{State as Service}
 use Rattle.service_step.specs.declared.state.Inward.TheVariants as inward
@@ -29,7 +30,6 @@ use Rattle.process_run.specs.States.{Gone, Holding, Keeps}
 use Rattle.process_run.specs.States as asked
 use Rattle.process_run.specs.Ends.{number_of}
 use Rattle.process_changes.specs.AtEnd.{AreSingle, Seen, total}
-use Rattle.process_changes.specs.Ledgers.{brought}
 use Rattle.process_changes.specs.Telling.{IsTold, Turn}
 use Rattle.process_sound.specs.Processes.{IsRunning}
 use Rattle.request_runs.specs.Sides.{Courses, Destroyed, Free, Held, Lost, Pair, Side, Standing, new_pair, new_side}
@@ -46,11 +46,23 @@ IsAlive o = phase_of o.status ≡ phase.Ended → ⊥
 
 -- ---- processes
 
--- A death that was told of an end is true
-abbrev pub IsDeathTold : Service → Status → Type 0
-IsDeathTold s (owners.Told c (answer.Refused cause.Dead)) = (x : EndId) → IsOn x c → IsGone s (opposite x)
-IsDeathTold s (owners.Told c (answer.Reported r)) = r.outcome ≡ outcome.Destroyed → IsGone s r.on ⊎ IsGone s (opposite r.on)
-IsDeathTold s status = ⊤
+-- A report that was told: of a death that is true, of a receive that is over, on an end that the process owns as long as it lives
+pub record IsReportTrue (s : Service) (i : ℕ) (r : Report) : Type 0 where
+  pub death : r.outcome ≡ outcome.Destroyed → IsGone s r.on ⊎ IsGone s (opposite r.on)
+  pub over : r.way ≡ way.Inward → (s.ends r.on).inward ≡ inward.Idle
+  pub own : IsGone s r.on ⊎ ((s.ends r.on).place ≡ place.Owned (process i))
+
+-- what was told a process is true until it makes its next step
+abbrev pub IsToldTrue : Service → ℕ → Status → Type 0
+IsToldTrue s i (owners.Told c (answer.Refused cause.Dead)) = (x : EndId) → IsOn x c → IsGone s x ⊎ IsGone s (opposite x)
+IsToldTrue s i (owners.Told (call.Cancel x w) answer.Ok) = (s.ends x).inward ≡ inward.Idle
+IsToldTrue s i (owners.Told c (answer.Reported r)) = IsReportTrue s i r
+IsToldTrue s i status = ⊤
+
+-- an answer brings eight ends at most
+abbrev pub most_brought : Status → ℕ
+most_brought (owners.Told c a) = 8
+most_brought status = 0
 
 -- The end is in one place at most: held, carried, in the hand, to be destroyed, or brought by a report that stands. Then the process owns it
 pub record IsInOnePlace (s : Service) (o : Owner) (i : ℕ) (x : EndId) : Type 0 where
@@ -64,9 +76,8 @@ pub record IsOwner (version : ℕ) (s : Service) (entries : ℕ) (i : ℕ) (o : 
   pub running : IsRunning o.state
   pub asked : IsAskedFor o.state o.status
   pub single : AreSingle o.state.places
-  -- each entry brings eight ends at most
-  pub few : length o.state.places + length (brought (given_of o.status)) ≤ 8192 + 8 * entries
-  pub death : IsDeathTold s o.status
+  pub few : length o.state.places + most_brought o.status ≤ 8192 + 8 * entries
+  pub told : IsToldTrue s i o.status
   pub custody : IsAlive o → (x : EndId) → IsInOnePlace s o i x
 
 pub record AreOwners (version count : ℕ) (s : Service) (entries : ℕ) (os : Owners) : Type 0 where
@@ -104,10 +115,14 @@ abbrev pub HasReceive : Turn → ℕ → Holding → Type 0
 HasReceive t n (Keeps k) = (k.receiving ≡ receiving.Idle → ⊥) ⊎ IsTold t (asked.Receive n) answer.Ok
 HasReceive t n (Gone own) = ⊥
 
+-- a receive of the end is not over, or its process is to hear of it
+abbrev pub IsReceived : Service → Owner → EndId → Type 0
+IsReceived s o x = ((s.ends x).inward ≡ inward.Idle → ⊥) ⊎ (told_to x (given_of o.status) ≡ [] → ⊥)
+
 -- how an end stands that this process owns, and what is coming to it
 pub record IsOwned (version : ℕ) (s : Service) (o : Owner) (i : ℕ) (x : EndId) (side : Side) : Type 0 where
   pub standing : IsStandingIn (brings s (process i) x) (seen_of o x) (seen_of o x).holding side.standing
-  pub receive : ((s.ends x).inward ≡ inward.Idle → ⊥) → HasReceive (turn_of o) (number_of x o.state.places) (seen_of o x).holding ⊎ (side.standing ≡ Lost)
+  pub receive : IsReceived s o x → HasReceive (turn_of o) (number_of x o.state.places) (seen_of o x).holding ⊎ (side.standing ≡ Lost)
   pub coming_is : AreSpelled version side.coming (told_to x (given_of o.status) ++ coming s x) ⊎ (side.standing ≡ Lost)
 
 abbrev pub IsSideAt : ℕ → Service → Owners → EndId → Side → Place → Type 0

@@ -1,0 +1,27 @@
+-- What steps of the service tell of processes.
+use Rattle.std.specs.Prelude.{ℕ, nat_eq, if◌then◌else◌, List, [], ◌∷◌, Option, Some, None}
+use Rattle.charlotte_calls.specs.declared.calls.Answer.{Answer}
+use Rattle.charlotte_calls.specs.declared.calls.Call.{Call}
+use Rattle.charlotte_calls.specs.declared.calls.ServiceStep.{ServiceStep}
+use Rattle.told_answers.specs.Told.{later_told}
+use Rattle.request_acts.specs.Acted.{process}
+use Rattle.followed_links.specs.Invariant.{Owners}
+use Rattle.followed_links.specs.Owners.{Asks, Owner, Over, Pends, Runs, Status, Told}
+
+-- a call of which this was told
+abbrev pub told_of : Call → Option Answer → Status
+told_of c None = Pends c
+told_of c (Some a) = Told c a
+
+-- one step more, which is no process's call
+abbrev pub hears_step : ℕ → ServiceStep → Status → Status
+hears_step i made (Pends c) = told_of c (later_told (process i) c (made ∷ []))
+hears_step i made status = status
+
+-- all processes hear of it
+abbrev pub all_hear : ServiceStep → Owners → Owners
+all_hear made os = λ i. record (os i) { status = hears_step i made (os i).status }
+
+-- one owner is so, and all others are as they were
+abbrev pub with_owner : ℕ → Owner → Owners → Owners
+with_owner i o os = λ j. if nat_eq i j then o else os j
