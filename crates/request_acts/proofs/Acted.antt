@@ -52,6 +52,7 @@ module _ (s : Setting) (programs : ℕ → Program) (merged : List Placed) (step
           last = all.last;
           acts = all.acts;
           steps_are = λ i within. ap (λ (x : Replayed State). x.steps) (all.ended i within) ∙ steps-there i (leb_tells (length s.homes) i) within;
+          idle = λ i above. all.others i above;
         }
 
   -- ---- each makes its own replay

@@ -28,6 +28,10 @@ pub record IsOwn (home : ℕ → ℕ) (count : ℕ) (e : Placed) : Type 0 where
   pub there : (p : Pid) (c : Call) → e.entry.what ≡ Asked p c → p.0 < count
   pub own : (p : Pid) (c : Call) → e.entry.what ≡ Asked p c → e.kernel ≡ home p.0
 
+-- how many steps each made
+abbrev steps_of : Fleet → ℕ → ℕ
+steps_of f i = (f i).replayed.steps
+
 -- all others are as they were
 abbrev OthersStay : Pid → Fleet → Fleet → Type 0
 OthersStay p f g = (i : ℕ) → nat_eq p.0 i ≡ false → g i ≡ f i
@@ -43,10 +47,28 @@ module _ (home : ℕ → ℕ) (count : ℕ) (ends : ℕ → Replayed State) wher
     pub last : Fleet
     pub acts : Acts home n f es deeds last
     pub ended : (i : ℕ) → i < count → (last i).replayed ≡ ends i
+    -- there are no others
+    pub others : (i : ℕ) → count ≤ i → steps_of last i ≡ steps_of f i
+
+  -- none of these is another
+  past : (p : Pid) (i : ℕ) → p.0 < count → count ≤ i → nat_eq p.0 i ≡ false
+  past p i below above = by (nat_eq p.0 i) refl
+    where
+      by : (b : Bool) → nat_eq p.0 i ≡ b → b ≡ false
+      by true same = let e : p.0 ≡ i = eqb-true p.0 i same in absurd (omega (arith, below, above, e))
+      by false other = refl
+
+  -- who hears of an entry makes no step by that
+  heard-steps : (e : Placed) (f : Fleet) (i : ℕ) → steps_of (hears_entry home e f) i ≡ steps_of f i
+  heard-steps e f i = by (nat_eq (home i) e.kernel) refl
+    where
+      by : (b : Bool) → nat_eq (home i) e.kernel ≡ b → steps_of (hears_entry home e f) i ≡ steps_of f i
+      by true here = ap (λ (z : Acting). z.replayed.steps) (heard-here home e f i here)
+      by false away = ap (λ (z : Acting). z.replayed.steps) (heard-not home e f i away)
 
   -- ---- pauses of one process
 
-  module _ (n : ℕ) (p : Pid) (es : List Placed) where
+  module _ (n : ℕ) (p : Pid) (es : List Placed) (within : p.0 < count) where
     -- it makes one
     pausing : (f : Fleet) (x : Replayed State) (given : Option Answer) → (f p.0).replayed ≡ x → IsGiven x.last x.heard given → replay.IsNoCall (step x.state given).0
         → Made n (with_acting p (paused given (f p.0)) f) es → Made n f es
@@ -58,6 +80,7 @@ module _ (home : ℕ → ℕ) (count : ℕ) (ends : ℕ → Replayed State) wher
           (record { is_given = subst (λ (z : Replayed State). IsGiven z.last z.heard given) (sym at) is; no_call = subst (λ (z : Replayed State). replay.IsNoCall (step z.state given).0) (sym at) none })
           made.acts;
       ended = made.ended;
+      others = λ i above. made.others i above ∙ ap (λ (z : Acting). z.replayed.steps) (set-other p (paused given (f p.0)) f i (past p i within above));
     }
 
     paused-at : (f : Fleet) (x : Replayed State) (given : Option Answer) → (f p.0).replayed ≡ x → (with_acting p (paused given (f p.0)) f p.0).replayed ≡ with_step step given x
@@ -103,11 +126,11 @@ module _ (home : ℕ → ℕ) (count : ℕ) (ends : ℕ → Replayed State) wher
 
   -- the first of them have their pauses still to make, and the others are at their ends
   to-ends : (n : ℕ) (k : ℕ) (f : Fleet) → AreToReplay f [] → ((i : ℕ) → k ≤ i → i < count → (f i).replayed ≡ ends i) → Made n f []
-  to-ends n zero f r ended = record { deeds = []; last = f; acts = Rests n f; ended = λ i below. ended i (omega arith) below }
+  to-ends n zero f r ended = record { deeds = []; last = f; acts = Rests n f; ended = λ i below. ended i (omega arith) below; others = λ i above. refl }
   to-ends n (suc k) f r ended = elim (leb_tells count k) [
     | inl above ↦ to-ends n k f r (λ i from within. ended i (omega (arith, above.1)) within)
     | inr below ↦
-        to-end n (process k) [] (r k below.1) refl f refl
+        to-end n (process k) [] below.1 (r k below.1) refl f refl
         (λ g there others. to-ends n k g (λ i within. by-same g there others i within (nat_eq k i) refl) (λ i from within. by-end g there others i from within (nat_eq k i) refl))
   ]
     where
@@ -142,7 +165,7 @@ module _ (home : ℕ → ℕ) (count : ℕ) (ends : ℕ → Replayed State) wher
     taking : ((p : Pid) → call_of p e.entry.what ≡ None) → Made n f (e ∷ es)
     taking none =
         let made = onward (hears_entry home e f) (λ i below. passed e es f i (none (process i)) (r i below)) in
-        record { deeds = made.deeds; last = made.last; acts = Takes n f e es made.deeds made.last none made.acts; ended = made.ended }
+        record { deeds = made.deeds; last = made.last; acts = Takes n f e es made.deeds made.last none made.acts; ended = made.ended; others = λ i above. made.others i above ∙ heard-steps e f i }
 
     -- or a process calls
     module _ (p : Pid) (c : Call) (is : e.entry.what ≡ Asked p c) (below : p.0 < count) (own : e.kernel ≡ home p.0) where
@@ -176,10 +199,13 @@ module _ (home : ℕ → ℕ) (count : ℕ) (ends : ℕ → Replayed State) wher
               last = made.last;
               acts = Calls n g p given c e es made.deeds made.last own call asking made.acts;
               ended = made.ended;
+              others =
+                  λ i above. made.others i above ∙ heard-steps e (asked_by p given g) i
+                  ∙ ap (λ (z : Acting). z.replayed.steps) (set-other p (called given (g p.0)) g i (past p i below above));
             }
 
       calling : Made n f (e ∷ es)
-      calling = to-call n p (e ∷ es) c e.entry (of_kernel (home p.0) es) call (r p.0 below) (entries-here home e f p.0 es here) f refl asks
+      calling = to-call n p (e ∷ es) below c e.entry (of_kernel (home p.0) es) call (r p.0 below) (entries-here home e f p.0 es here) f refl asks
 
   -- ---- all entries
 

@@ -1,5 +1,5 @@
 -- The deeds of a run whose processes are LYNX programs: when they are replayed by the entries, and what one replay of all of them gives.
-use Rattle.std.specs.Prelude.{◌≡◌, ℕ, zero, suc, ◌<◌, nat_eq, List, [], ◌∷◌, ◌++◌, length, map, filter, Option, None, Some}
+use Rattle.std.specs.Prelude.{◌≡◌, ℕ, zero, suc, ◌<◌, ◌≤◌, nat_eq, List, [], ◌∷◌, ◌++◌, length, map, filter, Option, None, Some}
 use Rattle.std.specs.List.{flat_map, range_with_len}
 use Rattle.charlotte_calls.specs.Program.{steps as steps_given}
 use Rattle.charlotte_calls.specs.declared.calls.Answer.{Answer}
@@ -51,6 +51,8 @@ pub record AreActed (s : Setting) (programs : ℕ → Program) (merged : List Pl
   pub last : Fleet
   pub acts : Acts (home_of s) 0 (at_start s.version programs) merged before_calls last
   pub steps_are : (i : ℕ) → i < length s.homes → (last i).replayed.steps ≡ steps i
+  -- there are no other processes
+  pub idle : (i : ℕ) → length s.homes ≤ i → (last i).replayed.steps ≡ 0
 
 -- the deeds of the run: those that no call followed stand at the end
 abbrev pub deeds_of : (s : Setting) (programs : ℕ → Program) (merged : List Placed) (steps : ℕ → ℕ) → AreActed s programs merged steps → List Done

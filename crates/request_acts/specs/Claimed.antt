@@ -1,9 +1,10 @@
 -- The claims on the deeds of a run whose processes are LYNX programs.
-use Rattle.std.specs.Prelude.{◌≡◌, ℕ, ◌<◌, ◌≤◌, ◌^◌, List, length, take}
+use Rattle.std.specs.Prelude.{◌≡◌, ℕ, ◌<◌, ◌≤◌, ◌^◌, List, length, take, All}
 use Rattle.std.specs.List.{AllByRecursion, IsDistinct}
 use Rattle.charlotte_calls.specs.EndEq.{end_eq}
 use Rattle.charlotte_calls.specs.Setting.{IsValid}
 use Rattle.charlotte_calls.specs.declared.setting.Setting.{Setting}
+use Rattle.kernel_entries.specs.Ranges.{IsPlacedInRange}
 use Rattle.kernel_entries.specs.declared.entry.Placed.{Placed}
 use Rattle.service_step.specs.Run.{start_state, state_after}
 use Rattle.service_step.specs.declared.state.Place.TheVariants.{Owned}
@@ -32,7 +33,7 @@ pub record AreLinked (s : Setting) (programs : ℕ → Program) (merged : List P
 abbrev pub ActsAreLinked : Type 0
 ActsAreLinked =
     (s : Setting) (programs : ℕ → Program) (merged : List Placed) (steps : ℕ → ℕ) (lawful : IsLawfulRecord s merged)
-    → IsValid s → length merged ≤ 2 ^ 28 → AreWired s programs
+    → IsValid s → All IsPlacedInRange merged → length merged ≤ 2 ^ 28 → AreWired s programs
     → (acted : AreActed s programs merged steps) → AreLinked s programs merged steps lawful acted
 
 -- a run has deeds, and they are so
