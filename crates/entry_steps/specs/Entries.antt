@@ -1,5 +1,5 @@
 -- The service steps of each entry of a run: those of its call, and those that come of it.
-use Rattle.std.specs.Prelude.{◌≡◌, ◌≢◌, ◌⊎◌, ℕ, ◌<◌, Bool, true, false, List, [], ◌∷◌, ◌++◌, length, Option, Some, None, ⊤}
+use Rattle.std.specs.Prelude.{◌≡◌, ◌≢◌, ◌⊎◌, ℕ, ◌<◌, List, [], ◌∷◌, ◌++◌, length, ⊤}
 use Rattle.std.specs.List.{AllByRecursion}
 use Rattle.charlotte_calls.specs.declared.calls.Call.{Call}
 use Rattle.charlotte_calls.specs.declared.calls.Call.TheVariants as call
@@ -17,7 +17,6 @@ use Rattle.kernel_step.specs.Start.{home}
 use Rattle.service_step.specs.Run.{IsRunFrom, state_after}
 use Rattle.service_step.specs.State.{State}
 use Rattle.service_streams.specs.Streams.{steps_in}
-use Rattle.told_answers.specs.Told.{cancel_in, report_in}
 
 -- the step of a call that is granted, as a list of one. A Print has none
 abbrev pub IsOwn : Pid → Call → List ServiceStep → Type 0
@@ -42,7 +41,7 @@ IsUncalled (step.Notice e dead) = ⊤
 IsUncalled (step.Back e n dead) = ⊤
 IsUncalled _ = ⊥
 
--- a report of p for its Wait, as a list of one or none
+-- what comes of a call that is granted, as a list of one or none: a report of p answers its Wait, or the message of its Send is matched
 abbrev pub IsToldBy : Pid → Call → List ServiceStep → Type 0
 IsToldBy p call.Wait steps = (steps ≡ []) ⊎ ((r : Report) × (steps ≡ step.Report p r ∷ []))
 IsToldBy p (call.Send on bytes xs) steps = (steps ≡ []) ⊎ ((n : ℕ) × (steps ≡ step.Match on n ∷ []))

@@ -1,0 +1,4 @@
+pub mod Calls
+pub mod Takings
+pub mod Phases
+pub mod Entries
