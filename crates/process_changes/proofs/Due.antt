@@ -1,17 +1,20 @@
--- Where no call is due, no end at rest has a request in part: a Receive would be due there.
+-- Calls that are due. Where none is, no end at rest has a request in part: a Receive would be due there.
 use Rattle.std.proofs.Common.{◌≡◌, ℕ, zero, suc, ◌+◌, Bool, true, false, not, ◌&&◌, ◌||◌, is_some, if◌then◌else◌, List, [], ◌∷◌, Option, Some, None, slice_get, refl, subst}
 use Rattle.charlotte_calls.specs.declared.calls.Call.TheVariants as call
 use Rattle.charlotte_calls.specs.declared.names.EndId.{EndId}
+use Rattle.charlotte_calls.specs.declared.program.Next.TheVariants as next
+use Rattle.end_protocol.specs.declared.going.Due.{Due}
 use Rattle.end_protocol.specs.declared.going.Due.TheVariants as due
 use Rattle.end_protocol.specs.declared.kept.Kept.{Kept}
 use Rattle.end_protocol.specs.declared.kept.Wanted.{Wanted}
+use Rattle.end_protocol.specs.declared.messages.Message.{Message}
 use Rattle.end_protocol.specs.Going.{due_call}
-use Rattle.end_protocol.specs.Lists.{is_nil}
+use Rattle.end_protocol.specs.Lists.{head, is_nil, tail}
 use Rattle.end_protocol.specs.Wanting.{is_busy, is_deaf, is_needed, is_open, is_silent, may_cancel}
-use Rattle.process_run.specs.States.{Destroy, Keeps, Place, Receive, State}
+use Rattle.process_run.specs.States.{Destroy, Gone, Holding, Keeps, Place, Receive, State}
 use Rattle.process_run.specs.Ends.{room}
-use Rattle.process_run.specs.Runs.{Asking, due_among, due_on, due_so, first_due, or_asking}
-use Rattle.process_changes.specs.Changes.{IsHeld, IsWhole, RestWhole}
+use Rattle.process_run.specs.Runs.{Asking, due_among, due_on, due_so, first_due, or_asking, sending}
+use Rattle.process_changes.specs.Changes.{AreLeft, IsHeld, IsWhole, RestWhole}
 use Rattle.process_changes.proofs.Places.{either_not, same_some, true_not_false}
 
 -- ---- one end
@@ -109,3 +112,46 @@ rest_whole t none = by_doomed t.doomed none
     by_doomed : (xs : List EndId) → first_due xs t ≡ None → RestWhole t.places
     by_doomed [] e = by_number e
     by_doomed (x ∷ xs) e = let no : ◌≡◌ {A = Option Asking} (Some (record { asked = Destroy; call = call.Destroy x })) None = e in absurd cc
+
+-- ---- what is left to be destroyed
+
+-- the call of it is no Destroy
+abbrev IsOther : Option Asking → Type 0
+IsOther o = (a : Asking) → o ≡ Some a → (xs : List EndId) → AreLeft (next.Ask a.call) xs xs
+
+none_asked : IsOther None
+none_asked a e xs = let no : ◌≡◌ {A = Option Asking} None (Some a) = e in absurd cc
+
+asked_so : (b : Asking) → ((xs : List EndId) → AreLeft (next.Ask b.call) xs xs) → IsOther (Some b)
+asked_so b left a e xs = subst (λ (c : Asking). AreLeft (next.Ask c.call) xs xs) (same_some b a e) (left xs)
+
+sent_other : (version n : ℕ) (x : EndId) (o : Option Message) → IsOther (sending version n x o)
+sent_other version n x None = none_asked
+sent_other version n x (Some m) = asked_so _ (λ xs. refl)
+
+due_other : (version n : ℕ) (x : EndId) (k : Kept) (d : Due) → IsOther (due_so version n x k d)
+due_other version n x k due.Nothing = none_asked
+due_other version n x k due.Send = sent_other version n x (head k.queue)
+due_other version n x k due.Receive = asked_so _ (λ xs. refl)
+due_other version n x k due.Cancel = asked_so _ (λ xs. refl)
+
+on_other : (version : ℕ) (free : Bool) (n : ℕ) (x : EndId) (g : Holding) → IsOther (due_on version free n x g)
+on_other version free n x (Keeps k) = due_other version n x k (due_call free k)
+on_other version free n x (Gone own) = none_asked
+
+or_other : (o p : Option Asking) → IsOther o → IsOther p → IsOther (or_asking o p)
+or_other None p first second = second
+or_other (Some a) p first second = first
+
+among_other : (version : ℕ) (free : Bool) (n : ℕ) (ps : List Place) → IsOther (due_among version free n ps)
+among_other version free n [] = none_asked
+among_other version free n (p ∷ ps) =
+    or_other (due_on version free n p.end p.holding) (due_among version free (n + 1) ps) (on_other version free n p.end p.holding) (among_other version free (n + 1) ps)
+
+-- after the call that is due
+pub due_left : (t : State) (a : Asking) → first_due t.doomed t ≡ Some a → AreLeft (next.Ask a.call) t.doomed (tail t.doomed)
+due_left t a e = by_doomed t.doomed e
+  where
+    by_doomed : (xs : List EndId) → first_due xs t ≡ Some a → AreLeft (next.Ask a.call) xs (tail xs)
+    by_doomed [] e = among_other t.version (room t) 1 t.places a e []
+    by_doomed (x ∷ xs) e = subst (λ (c : Asking). AreLeft (next.Ask c.call) (x ∷ xs) xs) (same_some (record { asked = Destroy; call = call.Destroy x }) a e) refl

@@ -1,46 +1,85 @@
 -- The ends of a process after some changes.
-use Rattle.std.proofs.Common.{◌≡◌, ℕ, zero, suc, Bool, true, false, ◌&&◌, ◌||◌, List, [], ◌∷◌, ◌++◌, length, Option, Some, None, slice_get, if◌then◌else◌, refl, sym, ap, subst, ◌∙◌, append_assoc, append-nil, eq-eqb, eqb-true}
+use Rattle.std.proofs.Common.{arith, ◌≡◌, ℕ, zero, suc, ◌+◌, ◌≤◌, Bool, true, false, ◌&&◌, ◌||◌, List, [], ◌∷◌, ◌++◌, length, Option, Some, None, slice_get, if◌then◌else◌, refl, sym, ap, subst, ◌∙◌, append_assoc, append-nil, eq-eqb, eqb-true}
 use Rattle.std.specs.Prelude.{◌==◌}
 use Rattle.std.specs.List.{list_any}
 use Rattle.charlotte_calls.specs.EndEq.{same_link}
 use Rattle.charlotte_calls.specs.declared.names.EndId.{EndId}
 use Rattle.typing_rules.specs.declared.exception.Exception.{Exception}
 use Rattle.typing_rules.specs.declared.exception.Exception.TheVariants as exceptions
+use Rattle.end_protocol.specs.declared.falling.Fallen.{Fallen}
+use Rattle.end_protocol.specs.Falling.{destroyed, held_again, raised}
 use Rattle.end_protocol.specs.Kept.{fresh}
 use Rattle.end_protocol.specs.Wanting.{is_busy}
 use Rattle.process_run.specs.States.{DeedOn, Gone, Held, Holding, Keeps, Place, State}
 use Rattle.process_run.specs.Actions.{fault_among, is_kept_back, link_fault, or_fault}
-use Rattle.process_run.specs.Deaths.{raises, raises_in}
-use Rattle.process_run.specs.Ends.{end_of, ends_at, held_at, held_in, held_of, hold_all, let_go, number_of, place_at, set_holding, with_holding}
-use Rattle.process_changes.specs.Changes.{Change, Changes, Holds, IsHeld, LetsGo, None as NoChange, RestWhole, Then}
+use Rattle.process_run.specs.Deaths.{falls, raises, raises_in}
+use Rattle.process_run.specs.Ends.{end_of, ends_at, get_all, gets_one, held_at, held_in, held_of, hold_all, let_go, number_of, place_at, set_holding, with_holding}
+use Rattle.process_changes.specs.Changes.{Change, Changes, Dooms, Gets, Holds, IsHeld, LetsGo, None as NoChange, RestWhole, Sorts, Then}
+use Rattle.process_changes.specs.Ledgers.{Ledger, how_often, ledger}
 
 pub true_not_false : true ≡ false → ⊥
 true_not_false e = cc
 
 -- ---- one after the other
 
-pub chain : (version : ℕ) (ps : List Place) (ds : List DeedOn) (qs : List Place) (es : List DeedOn) (rs : List Place) → Changes version ps ds qs → Changes version qs es rs → Changes version ps (ds ++ es) rs
-chain version ps ds qs es rs (NoChange l) more = more
-chain version ps ds qs es rs (Then a as' b bs c one others) more =
-    subst (λ (l : List DeedOn). Changes version ps l rs) (sym (append_assoc as' bs es)) (Then ps as' b (bs ++ es) rs one (chain version b bs qs es rs others more))
+module _ (version : ℕ) where
+  pub chain : (b : Ledger) (ds : List DeedOn) (c : Ledger) (es : List DeedOn) (d : Ledger) → Changes version b ds c → Changes version c es d → Changes version b (ds ++ es) d
+  chain b ds c es d (NoChange l) more = more
+  chain b ds c es d (Then a as' m bs l one others) more =
+      subst (λ (l : List DeedOn). Changes version b l d) (sym (append_assoc as' bs es)) (Then b as' m (bs ++ es) d one (chain m bs c es d others more))
 
-pub just : (version : ℕ) (ps : List Place) (ds : List DeedOn) (qs : List Place) → Change version ps ds qs → Changes version ps ds qs
-just version ps ds qs one = subst (λ (l : List DeedOn). Changes version ps l qs) (append-nil ds) (Then ps ds qs [] qs one (NoChange qs))
+  pub just : (b : Ledger) (ds : List DeedOn) (c : Ledger) → Change version b ds c → Changes version b ds c
+  just b ds c one = subst (λ (l : List DeedOn). Changes version b l c) (append-nil ds) (Then b ds c [] c one (NoChange c))
 
--- ends are held again
-pub holds : (version : ℕ) (xs : List EndId) (ps : List Place) → Changes version ps [] (hold_all xs ps)
-holds version [] ps = NoChange ps
-holds version (x ∷ xs) ps =
-    Then ps [] (with_holding (number_of x ps) (Keeps fresh) ps) [] (hold_all xs (with_holding (number_of x ps) (Keeps fresh) ps)) (Holds x ps)
-    (holds version xs (with_holding (number_of x ps) (Keeps fresh) ps))
+  pub same_ledger : (b c : Ledger) → c ≡ b → Changes version b [] c
+  same_ledger b c e = subst (λ (l : Ledger). Changes version b [] l) (sym e) (NoChange b)
 
-pub raised_places : (ns : List ℕ) (x : Exception) (s : State) → (raises_in ns x s).places ≡ s.places
-raised_places [] x s = refl
-raised_places (n ∷ ns) x s = raised_places ns x (raises n x s)
+  -- ---- the ends in the hand
 
-pub raised_version : (ns : List ℕ) (x : Exception) (s : State) → (raises_in ns x s).version ≡ s.version
+  abbrev ends_in : List Place → List EndId → List EndId → Ledger
+  ends_in ps doomed hand = record { places = ps; doomed = doomed; hand = hand }
+
+  -- they are held again; are got; or are to be destroyed
+  pub holds : (xs rest : List EndId) (ps : List Place) (doomed : List EndId) → Changes version (ends_in ps doomed (xs ++ rest)) [] (ends_in (hold_all xs ps) doomed rest)
+  holds [] rest ps doomed = NoChange _
+  holds (x ∷ xs) rest ps doomed = Then _ [] _ [] _ (Holds x (xs ++ rest) _ refl) (holds xs rest (with_holding (number_of x ps) (Keeps fresh) ps) doomed)
+
+  pub all_got : (xs rest : List EndId) (ps : List Place) (doomed : List EndId) → Changes version (ends_in ps doomed (xs ++ rest)) [] (ends_in (get_all xs ps) doomed rest)
+  all_got [] rest ps doomed = NoChange _
+  all_got (x ∷ xs) rest ps doomed = Then _ [] _ [] _ (Gets x (xs ++ rest) _ refl) (all_got xs rest (gets_one x ps) doomed)
+
+  pub all_doomed : (xs rest : List EndId) (ps : List Place) (doomed : List EndId) → Changes version (ends_in ps doomed (xs ++ rest)) [] (ends_in ps (doomed ++ xs) rest)
+  all_doomed [] rest ps doomed = subst (λ (l : List EndId). Changes version (ends_in ps doomed rest) [] (ends_in ps l rest)) (sym (append-nil doomed)) (NoChange _)
+  all_doomed (x ∷ xs) rest ps doomed =
+      subst (λ (l : List EndId). Changes version (ends_in ps doomed (x ∷ xs ++ rest)) [] (ends_in ps l rest)) (append_assoc doomed (x ∷ []) xs)
+      (Then _ [] _ [] _ (Dooms x (xs ++ rest) _ refl) (all_doomed xs rest ps (doomed ++ x ∷ [])))
+
+  -- they are dropped
+  pub drops : (xs : List EndId) (ps : List Place) (doomed : List EndId) → Changes version (ends_in ps doomed xs) [] (ends_in ps doomed [])
+  drops xs ps doomed = just (ends_in ps doomed xs) [] (ends_in ps doomed []) (Sorts [] (ends_in ps doomed xs) (λ x. omega arith))
+
+-- ---- what falls with an end
+
+raised_ledger : (ns : List ℕ) (x : Exception) (s : State) (xs : List EndId) → ledger (raises_in ns x s) xs ≡ ledger s xs
+raised_ledger [] x s xs = refl
+raised_ledger (n ∷ ns) x s xs = raised_ledger ns x (raises n x s) xs
+
+raised_version : (ns : List ℕ) (x : Exception) (s : State) → (raises_in ns x s).version ≡ s.version
 raised_version [] x s = refl
 raised_version (n ∷ ns) x s = raised_version ns x (raises n x s)
+
+-- what it carried is in the hand, before other ends
+pub falls_changes : (version : ℕ) (f : Fallen) (s : State) (rest : List EndId) → Changes version (ledger s ((held_again f ++ destroyed f) ++ rest)) [] (ledger (falls f s) rest)
+falls_changes version f s rest =
+    let held : List Place = hold_all (held_again f) s.places in
+    let fell : State = record s { places = held; doomed = s.doomed ++ destroyed f } in
+    subst (λ (l : List EndId). Changes version (ledger s l) [] (ledger (falls f s) rest)) (sym (append_assoc (held_again f) (destroyed f) rest))
+    (chain version _ [] (ledger (record s { places = held }) (destroyed f ++ rest)) [] _ (holds version (held_again f) (destroyed f ++ rest) s.places s.doomed)
+    (chain version _ [] (ledger fell rest) [] _ (all_doomed version (destroyed f) rest held s.doomed)
+    (same_ledger version (ledger fell rest) (ledger (falls f s) rest) (raised_ledger (raised f) exceptions.DeadLink fell rest))))
+
+pub falls_version : (f : Fallen) (s : State) → (falls f s).version ≡ s.version
+falls_version f s = raised_version (raised f) exceptions.DeadLink _
 
 -- ---- an end that is held
 
@@ -128,37 +167,46 @@ module _ (on : Held) (s : State) where
   abbrev AreSame : List ℕ → List Place → Type 0
   AreSame before ps = (m : ℕ) → list_any (λ i. i == m) before ≡ false → place_at m ps ≡ place_at m s.places
 
-  -- all of them go, and where the message goes nothing changes
-  pub record Going (version : ℕ) (ns before : List ℕ) (ps : List Place) : Type 0 where
-    pub changes : Changes version ps [] (let_go ns ps)
-    pub same : place_at on.number (let_go ns ps) ≡ place_at on.number s.places
+  -- all of them go into the hand, and where the message goes nothing changes
+  pub record Going (version : ℕ) (ns before : List ℕ) (b : Ledger) : Type 0 where
+    pub hand : List EndId
+    pub changes : Changes version b [] (record b { places = let_go ns b.places; hand = hand })
+    pub often : (x : EndId) → how_often x (ends_at ns s) + how_often x b.hand ≤ how_often x hand
+    pub same : place_at on.number (let_go ns b.places) ≡ place_at on.number s.places
     pub many : length (ends_at ns s) ≡ length ns
 
-  goes_first : RestWhole s.places → (version n : ℕ) (ns before : List ℕ) (ps : List Place) → (may : MayGo n before) → AreSame before ps → Going version ns (n ∷ before) (with_holding n (Gone false) ps) → Going version (n ∷ ns) before ps
-  goes_first whole version n ns before ps may same rest =
+  -- the ledger after one went
+  abbrev one_gone : ℕ → EndId → Ledger → Ledger
+  one_gone n x b = record b { places = with_holding n (Gone false) b.places; hand = x ∷ b.hand }
+
+  goes_first : RestWhole s.places → (version n : ℕ) (ns before : List ℕ) (b : Ledger) → (may : MayGo n before) → AreSame before b.places → Going version ns (n ∷ before) (one_gone n may.held.end b) → Going version (n ∷ ns) before b
+  goes_first whole version n ns before b may same rest =
+      let x : EndId = may.held.end in
       let here = held_here n may.held s may.at in
       let number : may.held.number ≡ n = here.number in
-      let was : IsHeld n may.held.end may.held.kept s.places = subst (λ (k : ℕ). IsHeld k may.held.end may.held.kept s.places) number here.there in
-      let there : IsHeld n may.held.end may.held.kept ps = same n (ap (λ (k : ℕ). list_any (λ i. i == k) before) (sym number) ∙ may.new) ∙ was in
+      let was : IsHeld n x may.held.kept s.places = subst (λ (k : ℕ). IsHeld k x may.held.kept s.places) number here.there in
+      let there : IsHeld n x may.held.kept b.places = same n (ap (λ (k : ℕ). list_any (λ i. i == k) before) (sym number) ∙ may.new) ∙ was in
+      let first : ends_at (n ∷ ns) s ≡ x ∷ ends_at ns s = ap (λ (o : Option Held). end_of o ++ ends_at ns s) may.at in
       record {
-        changes = Then ps [] (with_holding n (Gone false) ps) [] (let_go ns (with_holding n (Gone false) ps)) (LetsGo n may.held.end may.held.kept ps there may.rests (whole n may.held.end may.held.kept was may.rests)) rest.changes;
+        hand = rest.hand;
+        changes = Then b [] (one_gone n x b) [] _ (LetsGo n x may.held.kept b there may.rests (whole n x may.held.kept was may.rests)) rest.changes;
+        often = λ y. (let more = rest.often y in let this : how_often y (ends_at (n ∷ ns) s) ≡ how_often y (x ∷ ends_at ns s) = ap (how_often y) first in omega arith);
         same = rest.same;
-        many =
-            ap (λ (o : Option Held). length (end_of o ++ ends_at ns s)) may.at ∙ ap suc rest.many;
+        many = ap (λ (l : List EndId). length l) first ∙ ap suc rest.many;
       }
 
-  pub goes_away : RestWhole s.places → (version : ℕ) (ns before : List ℕ) (ps : List Place) → IsHeld on.number on.end on.kept s.places → fault_among on before ns s ≡ None → AreSame before ps → list_any (λ i. i == on.number) before ≡ false → Going version ns before ps
-  goes_away whole version [] before ps there fault same unnamed = record { changes = NoChange ps; same = same on.number unnamed; many = refl }
-  goes_away whole version (n ∷ ns) before ps there fault same unnamed =
+  pub goes_away : RestWhole s.places → (version : ℕ) (ns before : List ℕ) (b : Ledger) → IsHeld on.number on.end on.kept s.places → fault_among on before ns s ≡ None → AreSame before b.places → list_any (λ i. i == on.number) before ≡ false → Going version ns before b
+  goes_away whole version [] before b there fault same unnamed = record { hand = b.hand; changes = NoChange b; often = λ x. omega arith; same = same on.number unnamed; many = refl }
+  goes_away whole version (n ∷ ns) before b there fault same unnamed =
       let both = none_first (link_fault on before (held_at n s)) (fault_among on (n ∷ before) ns s) fault in
       let may = may_go n before (held_at n s) refl both.0 in
-      goes_first whole version n ns before ps may same
-      (goes_away whole version ns (n ∷ before) (with_holding n (Gone false) ps) there both.1 (others same) (away may))
+      goes_first whole version n ns before b may same
+      (goes_away whole version ns (n ∷ before) (one_gone n may.held.end b) there both.1 (others same) (away may))
     where
-      others : AreSame before ps → AreSame (n ∷ before) (with_holding n (Gone false) ps)
+      others : AreSame before b.places → AreSame (n ∷ before) (with_holding n (Gone false) b.places)
       others same m unnamed =
           let both = either_not (n == m) (list_any (λ i. i == m) before) unnamed in
-          other_place n m (Gone false) ps (λ e. let no : true ≡ false = sym (eq-eqb n m e) ∙ both.0 in cc) ∙ same m both.1
+          other_place n m (Gone false) b.places (λ e. let no : true ≡ false = sym (eq-eqb n m e) ∙ both.0 in cc) ∙ same m both.1
 
       away : MayGo n before → list_any (λ i. i == on.number) (n ∷ before) ≡ false
       away may = by_number (n == on.number) refl

@@ -1,102 +1,123 @@
 -- A slice changes the ends of its process one after the other.
-use Rattle.std.proofs.Common.{◌≡◌, ℕ, zero, suc, Bool, true, false, List, [], map, Option, Some, None, refl, sym, subst, ◌∙◌}
+use Rattle.std.proofs.Common.{◌≡◌, ℕ, zero, suc, Bool, true, false, List, [], Option, Some, None, refl, sym, subst, ◌∙◌}
 use Rattle.std.specs.List.{list_any}
 use Rattle.lynx_meaning.specs.Courses.{Action}
 use Rattle.lynx_meaning.specs.Courses as actions
 use Rattle.machine_turns.specs.Turns.{Act, AllBlocked, Beat, Finished, RunsOn, Spent, Stops, Turns}
 use Rattle.machine_turns.specs.Turns as turns
-use Rattle.process_run.specs.States.{DeedOn, Done, Place, State}
+use Rattle.process_run.specs.States.{DeedOn, Done, State}
 use Rattle.process_run.specs.Actions.{acts}
 use Rattle.process_run.specs.Ends.{room}
-use Rattle.process_run.specs.Runs.{Asking, Did, asks_first, calls, exits, finishes, first_due, goes_on, is_in_use, machine_run, most_actions, most_instructions, pauses, settled_at, settles, slice, stopped, unless_over, waits, with_deeds}
-use Rattle.process_changes.specs.Changes.{Changes, ChangesBy, ChangesIn, None as NoChange, RestWhole, Settle}
+use Rattle.process_run.specs.Runs.{Asking, Did, asks_first, calls, exits, finishes, first_due, goes_on, is_in_use, machine_run, most_actions, most_instructions, pauses, settles, slice, stopped, unless_over, waits, with_deeds}
+use Rattle.process_sound.specs.Acting.{IsActing}
+use Rattle.process_sound.specs.Processes.{IsGoing}
+use Rattle.process_sound.proofs.Actions.{acts_going}
+use Rattle.process_sound.proofs.Calls.{settles_going}
+use Rattle.process_sound.proofs.Runs.{IsStoppedSo, run_stops, with_turns}
+use Rattle.process_changes.specs.Changes.{AreLeft, Changes, None as NoChange, RestWhole, Settle}
+use Rattle.process_changes.specs.Ledgers.{Ledger, ledger}
 use Rattle.process_changes.proofs.Places.{chain, just}
-use Rattle.process_changes.proofs.Acting.{action_changes}
-use Rattle.process_changes.proofs.Due.{rest_whole}
+use Rattle.process_changes.proofs.Acting.{ChangesBy, action_changes}
+use Rattle.process_changes.proofs.Due.{due_left, rest_whole}
+
+-- what comes of a slice changes the ends so, with none in the hand before, and the version not at all
+pub record ChangesIn (s : State) (d : Did) : Type 0 where
+  pub last : Ledger
+  pub changes : Changes s.version (ledger s []) d.deeds last
+  pub places : last.places ≡ d.state.places
+  pub left : AreLeft d.next last.doomed d.state.doomed
+  pub version : d.state.version ≡ s.version
 
 -- nothing changes
-still : (s : State) (d : Did) → d.deeds ≡ [] → d.state.places ≡ s.places → d.state.version ≡ s.version → ChangesIn s d
-still s d none places version = record {
-  changes = subst (λ (ds : List DeedOn). Changes s.version s.places ds d.state.places) (sym none) (subst (λ (ps : List Place). Changes s.version s.places [] ps) (sym places) (NoChange s.places));
+still : (s : State) (d : Did) → d.deeds ≡ [] → d.state.places ≡ s.places → AreLeft d.next s.doomed d.state.doomed → d.state.version ≡ s.version → ChangesIn s d
+still s d none places left version = record {
+  last = ledger s [];
+  changes = subst (λ (ds : List DeedOn). Changes s.version (ledger s []) ds (ledger s [])) (sym none) (NoChange (ledger s []));
+  places = sym places;
+  left = left;
   version = version;
 }
 
 -- after these changes
-after_these : (s t : State) (ds : List DeedOn) (d : Did) → Changes s.version s.places ds t.places → t.version ≡ s.version → ChangesIn t d → ChangesIn s (with_deeds ds d)
+after_these : (s t : State) (ds : List DeedOn) (d : Did) → Changes s.version (ledger s []) ds (ledger t []) → t.version ≡ s.version → ChangesIn t d → ChangesIn s (with_deeds ds d)
 after_these s t ds d first version more = record {
-  changes = chain s.version s.places ds t.places d.deeds d.state.places first (subst (λ (v : ℕ). Changes v t.places d.deeds d.state.places) version more.changes);
+  last = more.last;
+  changes = chain s.version (ledger s []) ds (ledger t []) d.deeds more.last first (subst (λ (v : ℕ). Changes v (ledger t []) d.deeds more.last) version more.changes);
+  places = more.places;
+  left = more.left;
   version = more.version ∙ version;
 }
 
-settle_places : (s : State) → (settles s).places ≡ map (settled_at (room s)) s.places
+settle_changes : (s : State) → Changes s.version (ledger s []) [] (ledger (settles s) [])
 unfolding settles
-settle_places s = refl
+settle_changes s = just s.version (ledger s []) [] _ (Settle (room s) (ledger s []))
 
 settle_version : (s : State) → (settles s).version ≡ s.version
 unfolding settles
 settle_version s = refl
 
-settle_changes : (s : State) → Changes s.version s.places [] (settles s).places
-settle_changes s = subst (λ (ps : List Place). Changes s.version s.places [] ps) (sym (settle_places s)) (just s.version s.places [] (map (settled_at (room s)) s.places) (Settle (room s) s.places))
-
 -- a call that is due, or the process goes on, and then no end at rest has a request in part
-calls_change : (s : State) (next : State → Did) → ((t : State) → RestWhole t.places → ChangesIn t (next t)) → ChangesIn s (calls s next)
-calls_change s next each =
+calls_change : (s : State) (next : State → Did) → IsGoing [] s → ((t : State) → IsGoing [] t → RestWhole t.places → ChangesIn t (next t)) → ChangesIn s (calls s next)
+calls_change s next is each =
     after_these s (settles s) [] (asks_first (first_due (settles s).doomed (settles s)) (settles s) next) (settle_changes s) (settle_version s)
-    (by_due (settles s) (first_due (settles s).doomed (settles s)) refl)
+    (by_due (settles s) (settles_going [] s is) (first_due (settles s).doomed (settles s)) refl)
   where
-    by_due : (t : State) (o : Option Asking) → first_due t.doomed t ≡ o → ChangesIn t (asks_first o t next)
-    by_due t None e = each t (rest_whole t e)
-    by_due t (Some a) e = still t (asks_first (Some a) t next) refl refl refl
+    by_due : (t : State) → IsGoing [] t → (o : Option Asking) → first_due t.doomed t ≡ o → ChangesIn t (asks_first o t next)
+    by_due t going None e = each t going (rest_whole t e)
+    by_due t going (Some a) e = still t (asks_first (Some a) t next) refl refl (due_left t a e) refl
 
 finish : (b : Bool) (s : State) → ChangesIn s (finishes b s)
-finish true s = still s (finishes true s) refl refl refl
-finish false s = still s (finishes false s) refl refl refl
+finish true s = still s (finishes true s) refl refl refl refl
+finish false s = still s (finishes false s) refl refl refl refl
 
-module _ (s : State) (whole : RestWhole s.places) (next : ℕ → Done → Did) (each : (left : ℕ) (d : Done) → ChangesBy s d → ChangesIn s (next left d)) where
+-- with other turns
+turned : (s : State) (t : Turns) (d : Did) → ChangesIn (with_turns t s) d → ChangesIn s d
+turned s t d is = record { last = is.last; changes = is.changes; places = is.places; left = is.left; version = is.version }
+
+module _ (s : State) (whole : RestWhole s.places) (next : ℕ → Done → Did) (each : (left : ℕ) (d : Done) → IsGoing [] d.state → ChangesBy s d → ChangesIn s (next left d)) where
   -- what is done with other turns is done as well with these
-  by_action : (left n : ℕ) (a : Action) (t : Turns) → ChangesIn s (next left (acts n a (record s { turns = t })))
-  by_action left n a t =
-      let done : ChangesBy (record s { turns = t }) (acts n a (record s { turns = t })) = action_changes n (record s { turns = t }) whole a in
-      each left (acts n a (record s { turns = t })) (record { changes = done.changes; version = done.version })
+  by_action : (left n : ℕ) (a : Action) (t : Turns) → (a ≡ actions.New → ⊥) → IsActing n a (with_turns t s) → ChangesIn s (next left (acts n a (with_turns t s)))
+  by_action left n a t other is =
+      let done : ChangesBy (with_turns t s) (acts n a (with_turns t s)) = action_changes n (with_turns t s) whole is.going.code is.requests a is.of_module in
+      each left (acts n a (with_turns t s)) (acts_going n a (with_turns t s) other is) (record { changes = done.changes; version = done.version })
 
-  stop_changes : (b : Beat) → ChangesIn s (stopped b s next)
-  stop_changes (Stops (Act n actions.New) left t) = still s _ refl refl refl
-  stop_changes (Stops (Act n (actions.Write bytes)) left t) = still s _ refl refl refl
-  stop_changes (Stops (Act n (actions.Destroy link)) left t) = by_action left n (actions.Destroy link) t
-  stop_changes (Stops (Act n (actions.Bind link entry)) left t) = by_action left n (actions.Bind link entry) t
-  stop_changes (Stops (Act n (actions.Unbind link entry)) left t) = by_action left n (actions.Unbind link entry) t
-  stop_changes (Stops (Act n (actions.Connect link op vs)) left t) = by_action left n (actions.Connect link op vs) t
-  stop_changes (Stops (Act n (actions.Accept link op)) left t) = by_action left n (actions.Accept link op) t
-  stop_changes (Stops (Act n actions.Close) left t) = by_action left n actions.Close t
-  stop_changes (Stops (Act n (actions.Reply vs)) left t) = by_action left n (actions.Reply vs) t
-  stop_changes (Stops (Act n actions.Await) left t) = by_action left n actions.Await t
-  stop_changes (Stops (Act n actions.Stop) left t) = by_action left n actions.Stop t
-  stop_changes (Stops AllBlocked left t) =
-      let d = calls_change (record s { turns = t }) waits (λ u rests. still u (waits u) refl refl refl) in record { changes = d.changes; version = d.version }
-  stop_changes (Stops Finished left t) =
-      let d = calls_change (record s { turns = t }) (λ now. finishes (list_any (λ p. is_in_use p.holding) now.places) now) (λ u rests. finish (list_any (λ p. is_in_use p.holding) u.places) u) in
-      record { changes = d.changes; version = d.version }
-  stop_changes (Stops Spent left t) = still s _ refl refl refl
-  stop_changes (RunsOn left t) = still s _ refl refl refl
-  stop_changes turns.Broken = still s _ refl refl refl
+  stop_changes : (b : Beat) → IsStoppedSo s b → ChangesIn s (stopped b s next)
+  stop_changes (Stops (Act n actions.New) left t) so = still s _ refl refl refl refl
+  stop_changes (Stops (Act n (actions.Write bytes)) left t) so = still s _ refl refl refl refl
+  stop_changes (Stops (Act n (actions.Destroy link)) left t) so = by_action left n (actions.Destroy link) t (λ e. cc) so
+  stop_changes (Stops (Act n (actions.Bind link entry)) left t) so = by_action left n (actions.Bind link entry) t (λ e. cc) so
+  stop_changes (Stops (Act n (actions.Unbind link entry)) left t) so = by_action left n (actions.Unbind link entry) t (λ e. cc) so
+  stop_changes (Stops (Act n (actions.Connect link op vs)) left t) so = by_action left n (actions.Connect link op vs) t (λ e. cc) so
+  stop_changes (Stops (Act n (actions.Accept link op)) left t) so = by_action left n (actions.Accept link op) t (λ e. cc) so
+  stop_changes (Stops (Act n actions.Close) left t) so = by_action left n actions.Close t (λ e. cc) so
+  stop_changes (Stops (Act n (actions.Reply vs)) left t) so = by_action left n (actions.Reply vs) t (λ e. cc) so
+  stop_changes (Stops (Act n actions.Await) left t) so = by_action left n actions.Await t (λ e. cc) so
+  stop_changes (Stops (Act n actions.Stop) left t) so = by_action left n actions.Stop t (λ e. cc) so
+  stop_changes (Stops AllBlocked left t) so = turned s t _ (calls_change (with_turns t s) waits so (λ u going rests. still u (waits u) refl refl refl refl))
+  stop_changes (Stops Finished left t) so =
+      turned s t _
+      (calls_change (with_turns t s) (λ now. finishes (list_any (λ p. is_in_use p.holding) now.places) now) so (λ u going rests. finish (list_any (λ p. is_in_use p.holding) u.places) u))
+  stop_changes (Stops Spent left t) so = still s _ refl refl refl refl
+  stop_changes (RunsOn left t) so = still s _ refl refl refl refl
+  stop_changes turns.Broken so = still s _ refl refl refl refl
 
 over_or : (next : State → Did) (t : State) (b : Bool) → ChangesIn t (next t) → ChangesIn t (unless_over b t next)
-over_or next t true done = still t (exits t) refl refl refl
+over_or next t true done = still t (exits t) refl refl refl refl
 over_or next t false done = done
 
-goes_so : (rest : ℕ → State → Did) → ((left : ℕ) (t : State) → ChangesIn t (rest left t)) → (fuel : ℕ) (t : State) → RestWhole t.places →
+goes_so : (rest : ℕ → State → Did) → ((left : ℕ) (t : State) → IsGoing [] t → ChangesIn t (rest left t)) → (fuel : ℕ) (t : State) → IsGoing [] t → RestWhole t.places →
     ChangesIn t (stopped (machine_run fuel t) t (λ left d. with_deeds d.deeds (rest left d.state)))
-goes_so rest each fuel t whole =
-    stop_changes t whole (λ left d. with_deeds d.deeds (rest left d.state)) (λ left d done. after_these t d.state d.deeds (rest left d.state) done.changes done.version (each left d.state)) (machine_run fuel t)
+goes_so rest each fuel t is whole =
+    stop_changes t whole (λ left d. with_deeds d.deeds (rest left d.state))
+    (λ left d going done. after_these t d.state d.deeds (rest left d.state) done.changes done.version (each left d.state going)) (machine_run fuel t) (run_stops t is fuel)
 
-pub going_changes : (k fuel : ℕ) (s : State) → ChangesIn s (goes_on k fuel s)
-going_changes zero fuel s = calls_change s _ (λ t whole. over_or pauses t t.over (still t (pauses t) refl refl refl))
-going_changes (suc k) fuel s =
-    calls_change s _
-    (λ t whole. over_or (λ u. stopped (machine_run fuel u) u (λ left d. with_deeds d.deeds (goes_on k left d.state))) t t.over
-    (goes_so (goes_on k) (λ left v. going_changes k left v) fuel t whole))
+going_changes : (k fuel : ℕ) (s : State) → IsGoing [] s → ChangesIn s (goes_on k fuel s)
+going_changes zero fuel s is = calls_change s _ is (λ t going whole. over_or pauses t t.over (still t (pauses t) refl refl refl refl))
+going_changes (suc k) fuel s is =
+    calls_change s _ is
+    (λ t going whole. over_or (λ u. stopped (machine_run fuel u) u (λ left d. with_deeds d.deeds (goes_on k left d.state))) t t.over
+    (goes_so (goes_on k) (λ left v now. going_changes k left v now) fuel t going whole))
 
 -- a slice
-pub slice_changes : (s : State) → ChangesIn s (slice s)
-slice_changes s = going_changes (most_actions s) most_instructions s
+pub slice_changes : (s : State) → IsGoing [] s → ChangesIn s (slice s)
+slice_changes s is = going_changes (most_actions s) most_instructions s is

@@ -11,7 +11,7 @@ use Rattle.end_protocol.specs.Going.{returns}
 use Rattle.end_protocol.specs.Happenings.{Happening, Connects, Accepts, Binds, Unbinds, Replies, after, deeds_of}
 use Rattle.end_protocol.specs.Kept.{fresh}
 use Rattle.end_protocol.specs.Wanting.{is_busy}
-use Rattle.process_run.specs.States.{DeedOn, Done, Gone, Keeps, Place, State, deeds_on}
+use Rattle.process_run.specs.States.{DeedOn, Gone, Keeps, Place, deeds_on}
 use Rattle.process_run.specs.Ends.{gets_one, number_of, place_at, with_holding}
 use Rattle.process_run.specs.Runs.{settled_at}
 use Rattle.process_changes.specs.Ledgers.{Ledger, given_back, how_often}
