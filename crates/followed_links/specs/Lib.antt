@@ -1,3 +1,4 @@
 pub mod Owners
 pub mod Invariant
 pub mod Hearing
+pub mod Steps

@@ -1,0 +1,115 @@
+-- An entry keeps the invariant, where each of its steps does.
+use Rattle.std.proofs.Common.{arith, ◌≡◌, ◌≢◌, ◌⊎◌, inl, inr, ℕ, zero, suc, ◌+◌, ◌*◌, ◌≤◌, ◌<◌, nat_eq, Bool, true, false, if◌then◌else◌, List, [], ◌∷◌, ◌++◌, length, Option, Some, None, refl, sym, ap, subst, ◌∙◌, eq-eqb, eqb-true, ⊤}
+use Rattle.std.specs.List.{AllByRecursion}
+use Rattle.charlotte_calls.specs.declared.calls.Answer.{Answer}
+use Rattle.charlotte_calls.specs.declared.calls.Answer.TheVariants as answer
+use Rattle.charlotte_calls.specs.declared.calls.Call.{Call}
+use Rattle.charlotte_calls.specs.declared.calls.Call.TheVariants as call
+use Rattle.charlotte_calls.specs.declared.calls.Cause.{Cause}
+use Rattle.charlotte_calls.specs.declared.calls.Report.{Report}
+use Rattle.charlotte_calls.specs.declared.calls.ServiceStep.{ServiceStep}
+use Rattle.charlotte_calls.specs.declared.calls.ServiceStep.TheVariants as step
+use Rattle.charlotte_calls.specs.declared.names.EndId.{EndId}
+use Rattle.charlotte_calls.specs.declared.names.Pid.{Pid}
+use Rattle.charlotte_calls.specs.declared.names.Way.TheVariants.{Inward, Outward}
+use Rattle.charlotte_calls.specs.declared.setting.Setting.{Setting}
+use Rattle.kernel_entries.specs.declared.entry.Happened.TheVariants.{Asked, Took}
+use Rattle.kernel_entries.specs.declared.entry.Happened.{Happened}
+use Rattle.kernel_entries.specs.declared.entry.Placed.{Placed}
+use Rattle.service_step.specs.Run.{IsRunFrom, state_after}
+use Rattle.service_step.specs.State.{State as Service}
+use Rattle.service_step.specs.Steps.{IsServiceStep}
+use Rattle.service_step.specs.declared.state.Phase.{Phase}
+use Rattle.service_step.specs.declared.state.Phase.TheVariants as phase
+use Rattle.service_step.specs.declared.state.Place.TheVariants as place
+use Rattle.service_streams.specs.Streams.{steps_in}
+use Rattle.told_answers.specs.Told.{call_of, cancel_in, later_told, or_else, own_told, report_in}
+use Rattle.entry_steps.specs.Entries.{AreOfCall, Granted, IsEntry, IsOwn, IsToldBy, IsUncalled, Refused}
+use Rattle.end_protocol.specs.Deeds.{Deed}
+use Rattle.request_acts.specs.Acted.{home_of, process}
+use Rattle.followed_links.specs.Hearing.{all_hear, all_hear_steps, hears_step, hears_steps, owner_told, told_of, with_owner}
+use Rattle.followed_links.specs.Invariant.{AreOwners, IsOwner, Owners, Stands}
+use Rattle.followed_links.specs.Owners.{Asks, Over, Owner, Pends, Runs, Status, Told, phase_of}
+use Rattle.followed_links.specs.Steps.{HasBytes, HasRoom, IsFirst, IsMine}
+use Rattle.followed_links.proofs.Hearing.{pends-tell, told-stays, asks-stays, runs-stays, over-stays}
+
+-- the answer of one step alone
+abbrev or_nothing : Option Answer → Option Answer
+or_nothing o = or_else o None
+
+running-not-waiting : phase.Running ≡ phase.Waiting → ⊥
+running-not-waiting e = cc
+
+running-not-cancelling : (x : EndId) → phase.Running ≡ phase.Cancelling x → ⊥
+running-not-cancelling x e = cc
+
+-- ---- a process whose phase is as it was was told nothing
+
+pends-stays : (c : Call) (o : Option Answer) → ((a : Answer) → o ≡ Some a → phase_of (Pends c) ≡ phase.Running → ⊥) → phase_of (told_of c o) ≡ phase_of (Pends c)
+    → ((a : Answer) → phase_of (Told c a) ≡ phase.Running) → told_of c o ≡ Pends c
+pends-stays c None late same runs = refl
+pends-stays c (Some a) late same runs = absurd (late a refl (sym same ∙ runs a))
+
+-- only a Wait or a Cancel of a receive is answered later
+stays-by-phase : (i : ℕ) (steps : List ServiceStep) (status : Status) → phase_of (hears_steps i steps status) ≡ phase_of status → hears_steps i steps status ≡ status
+stays-by-phase i steps Runs same = runs-stays i steps
+stays-by-phase i steps (Asks c) same = asks-stays i steps c
+stays-by-phase i steps (Told c a) same = told-stays i steps c a
+stays-by-phase i steps Over same = over-stays i steps
+stays-by-phase i steps (Pends call.Make) same = pends-tell i call.Make steps
+stays-by-phase i steps (Pends (call.Destroy on)) same = pends-tell i (call.Destroy on) steps
+stays-by-phase i steps (Pends (call.Send on bytes xs)) same = pends-tell i (call.Send on bytes xs) steps
+stays-by-phase i steps (Pends (call.Receive on)) same = pends-tell i (call.Receive on) steps
+stays-by-phase i steps (Pends (call.Cancel on Outward)) same = pends-tell i (call.Cancel on Outward) steps
+stays-by-phase i steps (Pends (call.Print bytes)) same = pends-tell i (call.Print bytes) steps
+stays-by-phase i steps (Pends call.Exit) same = pends-tell i call.Exit steps
+stays-by-phase i steps (Pends call.Wait) same =
+    let tell = pends-tell i call.Wait steps in
+    tell ∙ pends-stays call.Wait (later_told (process i) call.Wait steps) (λ a e runs. running-not-waiting (sym runs)) (sym (ap phase_of tell) ∙ same) (λ a. refl)
+stays-by-phase i steps (Pends (call.Cancel on Inward)) same =
+    let tell = pends-tell i (call.Cancel on Inward) steps in
+    tell ∙ pends-stays (call.Cancel on Inward) (later_told (process i) (call.Cancel on Inward) steps) (λ a e runs. running-not-cancelling on (sym runs)) (sym (ap phase_of tell) ∙ same) (λ a. refl)
+
+-- ---- the first step of a call
+
+-- it tells nobody else anything
+first-silent : (i j : ℕ) (c : Call) (made : ServiceStep) → IsFirst i c made → (d : Call) → hears_step j made (Pends d) ≡ Pends d
+first-silent i j c made (inl refused) d = ap (λ (m : ServiceStep). hears_step j m (Pends d)) refused.1 ∙ by d
+  where
+    by : (d : Call) → hears_step j (step.Refuse (process i) c refused.0) (Pends d) ≡ Pends d
+    by call.Make = refl
+    by (call.Destroy on) = refl
+    by (call.Send on bytes xs) = refl
+    by (call.Receive on) = refl
+    by (call.Cancel on Inward) = refl
+    by (call.Cancel on Outward) = refl
+    by call.Wait = refl
+    by (call.Print bytes) = refl
+    by call.Exit = refl
+first-silent i j c made (inr own) d = by_call c own d
+  where
+    same_made : (m : ServiceStep) → made ∷ [] ≡ m ∷ [] → made ≡ m
+    same_made m e = cc
+
+    -- a step that tells nothing later
+    silent : (m : ServiceStep) → made ≡ m → report_in (process j) m ≡ None → ((on : EndId) → cancel_in on m ≡ None) → (d : Call) → hears_step j made (Pends d) ≡ Pends d
+    silent m e none nothing call.Make = refl
+    silent m e none nothing (call.Destroy on) = refl
+    silent m e none nothing (call.Send on bytes xs) = refl
+    silent m e none nothing (call.Receive on) = refl
+    silent m e none nothing (call.Cancel on Inward) =
+        ap (λ (n : ServiceStep). hears_step j n (Pends (call.Cancel on Inward))) e ∙ ap (λ (o : Option Answer). told_of (call.Cancel on Inward) (or_nothing o)) (nothing on)
+    silent m e none nothing (call.Cancel on Outward) = refl
+    silent m e none nothing call.Wait = ap (λ (n : ServiceStep). hears_step j n (Pends call.Wait)) e ∙ ap (λ (o : Option Answer). told_of call.Wait (or_nothing o)) none
+    silent m e none nothing (call.Print bytes) = refl
+    silent m e none nothing call.Exit = refl
+
+    by_call : (c : Call) → IsOwn (process i) c (made ∷ []) → (d : Call) → hears_step j made (Pends d) ≡ Pends d
+    by_call call.Make own d = silent (step.Make (process i) own.0 own.1.0) (same_made (step.Make (process i) own.0 own.1.0) own.1.1) refl (λ on. refl) d
+    by_call (call.Destroy on) own d = silent (step.Destroy on) (same_made (step.Destroy on) own) refl (λ on. refl) d
+    by_call (call.Send on bytes xs) own d = silent (step.Send on own.0 bytes xs) (same_made (step.Send on own.0 bytes xs) own.1) refl (λ on. refl) d
+    by_call (call.Receive on) own d = silent (step.Receive on) (same_made (step.Receive on) own) refl (λ on. refl) d
+    by_call (call.Cancel on w) own d = silent (step.Cancel on w) (same_made (step.Cancel on w) own) refl (λ on. refl) d
+    by_call call.Wait own d = silent (step.Wait (process i)) (same_made (step.Wait (process i)) own) refl (λ on. refl) d
+    by_call (call.Print bytes) own d = let no : made ∷ [] ≡ [] = own in absurd cc
+    by_call call.Exit own d = silent (step.Exit (process i)) (same_made (step.Exit (process i)) own) refl (λ on. refl) d
