@@ -1,5 +1,5 @@
 -- An entry keeps the invariant, where each of its steps does.
-use Rattle.std.proofs.Common.{arith, ◌≡◌, ◌≢◌, ◌⊎◌, inl, inr, ℕ, zero, suc, ◌+◌, ◌*◌, ◌≤◌, ◌<◌, nat_eq, Bool, true, false, if◌then◌else◌, List, [], ◌∷◌, ◌++◌, length, Option, Some, None, refl, sym, ap, subst, ◌∙◌, eq-eqb, eqb-true, ⊤}
+use Rattle.std.proofs.Common.{arith, ◌≡◌, ◌≢◌, ◌⊎◌, inl, inr, ℕ, zero, suc, ◌+◌, ◌*◌, ◌≤◌, ◌<◌, nat_eq, Bool, true, false, if◌then◌else◌, List, [], ◌∷◌, ◌++◌, length, Option, Some, None, refl, sym, ap, subst, ◌∙◌, eq-eqb, eqb-true}
 use Rattle.std.specs.List.{AllByRecursion}
 use Rattle.charlotte_calls.specs.declared.calls.Answer.{Answer}
 use Rattle.charlotte_calls.specs.declared.calls.Answer.TheVariants as answer
@@ -26,6 +26,7 @@ use Rattle.service_streams.specs.Streams.{steps_in}
 use Rattle.told_answers.specs.Told.{call_of, cancel_in, later_told, or_else, own_told, report_in}
 use Rattle.entry_steps.specs.Entries.{AreOfCall, Granted, IsEntry, IsOwn, IsToldBy, IsUncalled, Refused}
 use Rattle.end_protocol.specs.Deeds.{Deed}
+use Rattle.process_run.specs.States.{State}
 use Rattle.request_acts.specs.Acted.{home_of, process}
 use Rattle.followed_links.specs.Hearing.{all_hear, all_hear_steps, hears_step, hears_steps, owner_told, told_of, with_owner}
 use Rattle.followed_links.specs.Invariant.{AreOwners, IsOwner, Owners, Stands}
@@ -105,7 +106,7 @@ first-silent i j c made (inr own) d = by_call c own d
     silent m e none nothing call.Exit = refl
 
     by_call : (c : Call) → IsOwn (process i) c (made ∷ []) → (d : Call) → hears_step j made (Pends d) ≡ Pends d
-    by_call call.Make own d = silent (step.Make (process i) own.0 own.1.0) (same_made (step.Make (process i) own.0 own.1.0) own.1.1) refl (λ on. refl) d
+    by_call call.Make own d = silent (step.Make (process i) own.0 own.1) (same_made (step.Make (process i) own.0 own.1) own.2) refl (λ on. refl) d
     by_call (call.Destroy on) own d = silent (step.Destroy on) (same_made (step.Destroy on) own) refl (λ on. refl) d
     by_call (call.Send on bytes xs) own d = silent (step.Send on own.0 bytes xs) (same_made (step.Send on own.0 bytes xs) own.1) refl (λ on. refl) d
     by_call (call.Receive on) own d = silent (step.Receive on) (same_made (step.Receive on) own) refl (λ on. refl) d
@@ -113,3 +114,35 @@ first-silent i j c made (inr own) d = by_call c own d
     by_call call.Wait own d = silent (step.Wait (process i)) (same_made (step.Wait (process i)) own) refl (λ on. refl) d
     by_call (call.Print bytes) own d = let no : made ∷ [] ≡ [] = own in absurd cc
     by_call call.Exit own d = silent (step.Exit (process i)) (same_made (step.Exit (process i)) own) refl (λ on. refl) d
+
+-- ---- the steps of an entry
+
+-- each process is told one answer at most, so the places still have room
+room-stays : (count n : ℕ) (os qs : Owners) → ((i : ℕ) → (qs i).state ≡ (os i).state) → HasRoom count n os → HasRoom count n qs
+room-stays count n os qs same room i below = subst (λ (s : State). length s.places ≤ 8192 + 8 * n) (sym (same i)) (room i below)
+
+-- one entry more
+more-entries : (version count n : ℕ) (s : Service) (os : Owners) (deeds : EndId → List Deed) → Stands version count s n os deeds → Stands version count s (suc n) os deeds
+more-entries version count n s os deeds is =
+    record {
+      owners = record is.owners {
+        each =
+            λ i below. (let o = is.owners.each i below in record o { few = (let f = o.few in omega (arith, f)) });
+      };
+      links = is.links;
+    }
+
+module _ (version count : ℕ)
+    (uncalled : (s : Service) (made : ServiceStep) (t : Service) (n : ℕ) (os : Owners) (deeds : EndId → List Deed) → Stands version count s (suc n) os deeds → HasRoom count n os → IsServiceStep s made t → IsUncalled made
+    → Stands version count t (suc n) (all_hear made os) deeds)
+    (first : (s : Service) (made : ServiceStep) (t : Service) (n i : ℕ) (c : Call) (os : Owners) (deeds : EndId → List Deed) → i < count → (os i).status ≡ Asks c → Stands version count s (suc n) os deeds → HasRoom count n os
+    → IsServiceStep s made t → IsFirst i c made → IsMine s i c → HasBytes c → Stands version count t (suc n) (with_owner i (owner_told c (own_told (process i) c (made ∷ [])) (os i)) os) deeds)
+    (prints : (s : Service) (n i : ℕ) (bytes : List ℕ) (os : Owners) (deeds : EndId → List Deed) → i < count → (os i).status ≡ Asks (call.Print bytes) → Stands version count s (suc n) os deeds → HasRoom count n os
+    → Stands version count s (suc n) (with_owner i (owner_told (call.Print bytes) (Some answer.Ok) (os i)) os) deeds) where
+
+  -- steps that are no process's call
+  uncalled-all : (part : List (ServiceStep × Service)) (s : Service) (n : ℕ) (os : Owners) (deeds : EndId → List Deed) → Stands version count s (suc n) os deeds → HasRoom count n os → IsRunFrom s part
+      → AllByRecursion IsUncalled (steps_in part) → Stands version count (state_after s part) (suc n) (all_hear_steps (steps_in part) os) deeds
+  uncalled-all [] s n os deeds is room run none = is
+  uncalled-all (made ∷ part) s n os deeds is room run none =
+      uncalled-all part made.1 n (all_hear made.0 os) deeds (uncalled s made.0 made.1 n os deeds is room run.0 none.0) (room-stays count n os (all_hear made.0 os) (λ i. refl) room) run.1 none.1
