@@ -125,12 +125,29 @@ room-stays count n os qs same room i below = subst (λ (s : State). length s.pla
 more-entries : (version count n : ℕ) (s : Service) (os : Owners) (deeds : EndId → List Deed) → Stands version count s n os deeds → Stands version count s (suc n) os deeds
 more-entries version count n s os deeds is =
     record {
-      owners = record is.owners {
-        each =
-            λ i below. (let o = is.owners.each i below in record o { few = (let f = o.few in omega (arith, f)) });
-      };
+      owners =
+          record {
+            consistent = is.owners.consistent;
+            matched = is.owners.matched;
+            version_is = is.owners.version_is;
+            count_is = is.owners.count_is;
+            each = λ i below. one i (is.owners.each i below);
+          };
       links = is.links;
     }
+  where
+    one : (i : ℕ) → IsOwner version s n i (os i) → IsOwner version s (suc n) i (os i)
+    one i o =
+        record {
+          phase = o.phase;
+          version_is = o.version_is;
+          running = o.running;
+          asked = o.asked;
+          single = o.single;
+          few = (let f = o.few in omega (arith, f));
+          told = o.told;
+          custody = o.custody;
+        }
 
 module _ (version count : ℕ)
     (uncalled : (s : Service) (made : ServiceStep) (t : Service) (n : ℕ) (os : Owners) (deeds : EndId → List Deed) → Stands version count s (suc n) os deeds → HasRoom count n os → IsServiceStep s made t → IsUncalled made
@@ -146,3 +163,12 @@ module _ (version count : ℕ)
   uncalled-all [] s n os deeds is room run none = is
   uncalled-all (made ∷ part) s n os deeds is room run none =
       uncalled-all part made.1 n (all_hear made.0 os) deeds (uncalled s made.0 made.1 n os deeds is room run.0 none.0) (room-stays count n os (all_hear made.0 os) (λ i. refl) room) run.1 none.1
+
+  -- ---- an entry
+
+  -- what processes of other kernels hear is nothing
+  module _ (g : Setting) (s t : Service) (n : ℕ) (os qs : Owners) (deeds : EndId → List Deed) (steps : List ServiceStep) (before : Stands version count s n os deeds) (after : Stands version count t (suc n) qs deeds) where
+    unheard : (i : ℕ) → i < count → (qs i).status ≡ hears_steps i steps (os i).status → (t.process i).phase ≡ (s.process i).phase → hears_steps i steps (os i).status ≡ (os i).status
+    unheard i below is still =
+        stays-by-phase i steps (os i).status
+        (ap phase_of (sym is) ∙ sym (after.owners.each i below).phase ∙ still ∙ (before.owners.each i below).phase)
