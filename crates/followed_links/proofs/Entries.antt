@@ -52,7 +52,7 @@ pends-stays c None late same runs = refl
 pends-stays c (Some a) late same runs = absurd (late a refl (sym same ∙ runs a))
 
 -- only a Wait or a Cancel of a receive is answered later
-stays-by-phase : (i : ℕ) (steps : List ServiceStep) (status : Status) → phase_of (hears_steps i steps status) ≡ phase_of status → hears_steps i steps status ≡ status
+pub stays-by-phase : (i : ℕ) (steps : List ServiceStep) (status : Status) → phase_of (hears_steps i steps status) ≡ phase_of status → hears_steps i steps status ≡ status
 stays-by-phase i steps Runs same = runs-stays i steps
 stays-by-phase i steps (Asks c) same = asks-stays i steps c
 stays-by-phase i steps (Told c a) same = told-stays i steps c a
@@ -74,7 +74,7 @@ stays-by-phase i steps (Pends (call.Cancel on Inward)) same =
 -- ---- the first step of a call
 
 -- it tells nobody else anything
-first-silent : (i j : ℕ) (c : Call) (made : ServiceStep) → IsFirst i c made → (d : Call) → hears_step j made (Pends d) ≡ Pends d
+pub first-silent : (i j : ℕ) (c : Call) (made : ServiceStep) → IsFirst i c made → (d : Call) → hears_step j made (Pends d) ≡ Pends d
 first-silent i j c made (inl refused) d = ap (λ (m : ServiceStep). hears_step j m (Pends d)) refused.1 ∙ by d
   where
     by : (d : Call) → hears_step j (step.Refuse (process i) c refused.0) (Pends d) ≡ Pends d
@@ -122,7 +122,7 @@ room-stays : (count n : ℕ) (os qs : Owners) → ((i : ℕ) → (qs i).state �
 room-stays count n os qs same room i below = subst (λ (s : State). length s.places ≤ 8192 + 8 * n) (sym (same i)) (room i below)
 
 -- one entry more
-more-entries : (version count n : ℕ) (s : Service) (os : Owners) (deeds : EndId → List Deed) → Stands version count s n os deeds → Stands version count s (suc n) os deeds
+pub more-entries : (version count n : ℕ) (s : Service) (os : Owners) (deeds : EndId → List Deed) → Stands version count s n os deeds → Stands version count s (suc n) os deeds
 more-entries version count n s os deeds is =
     record {
       owners =
@@ -158,7 +158,7 @@ module _ (version count : ℕ)
     → Stands version count s (suc n) (with_owner i (owner_told (call.Print bytes) (Some answer.Ok) (os i)) os) deeds) where
 
   -- steps that are no process's call
-  uncalled-all : (part : List (ServiceStep × Service)) (s : Service) (n : ℕ) (os : Owners) (deeds : EndId → List Deed) → Stands version count s (suc n) os deeds → HasRoom count n os → IsRunFrom s part
+  pub uncalled-all : (part : List (ServiceStep × Service)) (s : Service) (n : ℕ) (os : Owners) (deeds : EndId → List Deed) → Stands version count s (suc n) os deeds → HasRoom count n os → IsRunFrom s part
       → AllByRecursion IsUncalled (steps_in part) → Stands version count (state_after s part) (suc n) (all_hear_steps (steps_in part) os) deeds
   uncalled-all [] s n os deeds is room run none = is
   uncalled-all (made ∷ part) s n os deeds is room run none =
@@ -168,7 +168,7 @@ module _ (version count : ℕ)
 
   -- what processes of other kernels hear is nothing
   module _ (g : Setting) (s t : Service) (n : ℕ) (os qs : Owners) (deeds : EndId → List Deed) (steps : List ServiceStep) (before : Stands version count s n os deeds) (after : Stands version count t (suc n) qs deeds) where
-    unheard : (i : ℕ) → i < count → (qs i).status ≡ hears_steps i steps (os i).status → (t.process i).phase ≡ (s.process i).phase → hears_steps i steps (os i).status ≡ (os i).status
+    pub unheard : (i : ℕ) → i < count → (qs i).status ≡ hears_steps i steps (os i).status → (t.process i).phase ≡ (s.process i).phase → hears_steps i steps (os i).status ≡ (os i).status
     unheard i below is still =
         stays-by-phase i steps (os i).status
         (ap phase_of (sym is) ∙ sym (after.owners.each i below).phase ∙ still ∙ (before.owners.each i below).phase)

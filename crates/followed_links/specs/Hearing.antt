@@ -4,9 +4,10 @@ use Rattle.charlotte_calls.specs.declared.calls.Answer.{Answer}
 use Rattle.charlotte_calls.specs.declared.calls.Call.{Call}
 use Rattle.charlotte_calls.specs.declared.calls.ServiceStep.{ServiceStep}
 use Rattle.told_answers.specs.Told.{later_told}
+use Rattle.language_links.specs.Acting.{Fleet}
 use Rattle.request_acts.specs.Acted.{process}
 use Rattle.followed_links.specs.Invariant.{Owners}
-use Rattle.followed_links.specs.Owners.{Asks, Owner, Over, Pends, Runs, Status, Told}
+use Rattle.followed_links.specs.Owners.{Owner, Pends, Status, Told, owner_of}
 
 -- a call of which this was told
 abbrev pub told_of : Call → Option Answer → Status
@@ -37,3 +38,7 @@ with_owner i o os = λ j. if nat_eq i j then o else os j
 -- a process asked this call, and was told this at once
 abbrev pub owner_told : Call → Option Answer → Owner → Owner
 owner_told c told o = record o { status = told_of c told }
+
+-- the owners in a replay of all processes
+abbrev pub owners : Fleet → Owners
+owners f = λ i. owner_of (f i)
