@@ -1,5 +1,5 @@
 -- An entry keeps the invariant: of a packet that is taken, or of a call.
-use Rattle.std.proofs.Common.{arith, ◌≡◌, ◌⊎◌, inl, inr, ⊎_elim, ℕ, zero, suc, ◌+◌, ◌*◌, ◌≤◌, ◌<◌, nat_eq, Bool, true, false, if◌then◌else◌, List, [], ◌∷◌, ◌++◌, length, Option, Some, None, refl, sym, ap, subst, ◌∙◌, eq-eqb, eqb-true}
+use Rattle.std.proofs.Common.{arith, ◌≡◌, ◌⊎◌, inl, inr, ⊎_elim, ℕ, zero, suc, ◌+◌, ◌*◌, ◌≤◌, ◌<◌, nat_eq, leb, Bool, true, false, if◌then◌else◌, List, [], ◌∷◌, ◌++◌, length, Option, Some, None, refl, sym, ap, subst, ◌∙◌, eq-eqb, eqb-true, leb_tells}
 use Rattle.std.specs.List.{AllByRecursion}
 use Rattle.charlotte_calls.specs.declared.calls.Answer.{Answer}
 use Rattle.charlotte_calls.specs.declared.calls.Answer.TheVariants as answer
@@ -32,7 +32,7 @@ use Rattle.followed_links.specs.Invariant.{Owners, Stands}
 use Rattle.followed_links.specs.Owners.{Asks, Over, Owner, Pends, Runs, Status, Told, owner_of, status_of}
 use Rattle.followed_links.specs.Steps.{HasBytes, HasRoom, IsFirst, IsMine}
 use Rattle.followed_links.proofs.Hearing.{hears-status, runs-stays, status-told}
-use Rattle.followed_links.proofs.Entries.{first-silent, more-entries, uncalled-all, unheard}
+use Rattle.followed_links.proofs.Entries.{StepsKeep, first-silent, more-entries, uncalled-all, unheard}
 
 -- ---- what is heard of an entry
 
@@ -63,3 +63,61 @@ module _ (g : Setting) (e : Placed) (f : Fleet) (i : ℕ) where
   -- at another kernel
   heard-away : nat_eq (home_of g i) e.kernel ≡ false → owner_of hears ≡ owner_of (f i)
   heard-away away = ap owner_of (heard-not (home_of g) e f i away)
+
+-- ---- all processes
+
+-- a process beyond these made no step
+abbrev pub AreIdle : ℕ → Fleet → Type 0
+AreIdle count f = (i : ℕ) → count ≤ i → (f i).replayed.last ≡ None
+
+same-owners : (os qs : Owners) → ((i : ℕ) → os i ≡ qs i) → os ≡ qs
+same-owners os qs each = λ j i. each i j
+
+below-or-above : (count i : ℕ) → (i < count) ⊎ (count ≤ i)
+below-or-above count i = by (leb_tells count i)
+  where
+    by : ((leb count i ≡ true) × (count ≤ i)) ⊎ ((leb count i ≡ false) × (i < count)) → (i < count) ⊎ (count ≤ i)
+    by (inl above) = inr above.1
+    by (inr below) = inl below.1
+
+room-of : (version count n : ℕ) (s : Service) (os : Owners) (deeds : EndId → List Deed) → Stands version count s n os deeds → HasRoom count n os
+room-of version count n s os deeds is i below = let f = (is.owners.each i below).few in omega (arith, f)
+
+module _ (g : Setting) (version count : ℕ) (keep : StepsKeep version count) (s : Service) (n : ℕ) (e : Placed) (part : List (ServiceStep × Service)) (entry : IsEntry g s e part) where
+  abbrev t : Service
+  t = state_after s part
+
+  -- at another kernel nothing is heard
+  still : (i : ℕ) → nat_eq (home_of g i) e.kernel ≡ false → (t.process i).phase ≡ (s.process i).phase
+  still i away = entry.others (process i) (λ same. let no : true ≡ false = sym (eq-eqb (home_of g i) e.kernel same) ∙ away in cc)
+
+  away-stays : (os qs : Owners) (deeds : EndId → List Deed) (steps : List ServiceStep) → Stands version count s n os deeds → Stands version count t (suc n) qs deeds
+      → (i : ℕ) → ((count ≤ i) → (os i).status ≡ Runs) → (qs i).status ≡ hears_steps i steps (os i).status → nat_eq (home_of g i) e.kernel ≡ false → hears_steps i steps (os i).status ≡ (os i).status
+  away-stays os qs deeds steps before after i idle is away =
+      ⊎_elim
+      (λ (below : i < count). unheard version count s t n os qs deeds steps before after i below is (still i away))
+      (λ (above : count ≤ i). ap (hears_steps i steps) (idle above) ∙ runs-stays i steps ∙ sym (idle above))
+      (below-or-above count i)
+
+  -- a packet that is taken
+  module _ (f : Fleet) (deeds : EndId → List Deed) (is : Stands version count s n (owners f) deeds) (idle : AreIdle count f) (none : (p : Pid) → call_of p e.entry.what ≡ None) (uncalled : AllByRecursion IsUncalled e.entry.steps) where
+    abbrev qs : Owners
+    qs = all_hear_steps (steps_in part) (owners f)
+
+    after : Stands version count t (suc n) qs deeds
+    after =
+        uncalled-all version count keep part s n (owners f) deeds (more-entries version count n s (owners f) deeds is) (room-of version count n s (owners f) deeds is) entry.run
+        (subst (λ (l : List ServiceStep). AllByRecursion IsUncalled l) (sym entry.steps) uncalled)
+
+    one : (i : ℕ) → qs i ≡ owner_of (hears_entry (home_of g) e f i)
+    one i = by (nat_eq (home_of g i) e.kernel) refl
+      where
+        by : (b : Bool) → nat_eq (home_of g i) e.kernel ≡ b → qs i ≡ owner_of (hears_entry (home_of g) e f i)
+        by true here = ap (λ (l : List ServiceStep). hearing i l (owner_of (f i))) entry.steps ∙ sym (heard-uncalled g e f i (none (process i)) here)
+        by false away =
+            ap (λ (status : Status). record { state = (f i).replayed.state; status = status })
+            (away-stays (owners f) qs deeds (steps_in part) is after i (λ above. ap (λ (l : Option Next). status_of l (f i).replayed.heard) (idle i above)) refl away)
+            ∙ sym (heard-away g e f i away)
+
+    pub taking-stands : Stands version count t (suc n) (owners (hears_entry (home_of g) e f)) deeds
+    taking-stands = subst (λ (os : Owners). Stands version count t (suc n) os deeds) (same-owners qs (owners (hears_entry (home_of g) e f)) one) after

@@ -149,26 +149,29 @@ more-entries version count n s os deeds is =
           custody = o.custody;
         }
 
-module _ (version count : ℕ)
-    (uncalled : (s : Service) (made : ServiceStep) (t : Service) (n : ℕ) (os : Owners) (deeds : EndId → List Deed) → Stands version count s (suc n) os deeds → HasRoom count n os → IsServiceStep s made t → IsUncalled made
-    → Stands version count t (suc n) (all_hear made os) deeds)
-    (first : (s : Service) (made : ServiceStep) (t : Service) (n i : ℕ) (c : Call) (os : Owners) (deeds : EndId → List Deed) → i < count → (os i).status ≡ Asks c → Stands version count s (suc n) os deeds → HasRoom count n os
-    → IsServiceStep s made t → IsFirst i c made → IsMine s i c → HasBytes c → Stands version count t (suc n) (with_owner i (owner_told c (own_told (process i) c (made ∷ [])) (os i)) os) deeds)
-    (prints : (s : Service) (n i : ℕ) (bytes : List ℕ) (os : Owners) (deeds : EndId → List Deed) → i < count → (os i).status ≡ Asks (call.Print bytes) → Stands version count s (suc n) os deeds → HasRoom count n os
-    → Stands version count s (suc n) (with_owner i (owner_told (call.Print bytes) (Some answer.Ok) (os i)) os) deeds) where
+-- steps of the service keep the invariant: those that are no process's call, the first step of a call, and a print, which has none
+pub record StepsKeep (version count : ℕ) : Type 0 where
+  pub uncalled : (s : Service) (made : ServiceStep) (t : Service) (n : ℕ) (os : Owners) (deeds : EndId → List Deed) → Stands version count s (suc n) os deeds → HasRoom count n os → IsServiceStep s made t
+      → IsUncalled made → Stands version count t (suc n) (all_hear made os) deeds
+  pub first : (s : Service) (made : ServiceStep) (t : Service) (n i : ℕ) (c : Call) (os : Owners) (deeds : EndId → List Deed) → i < count → (os i).status ≡ Asks c → Stands version count s (suc n) os deeds
+      → HasRoom count n os → IsServiceStep s made t → IsFirst i c made → IsMine s i c → HasBytes c
+      → Stands version count t (suc n) (with_owner i (owner_told c (own_told (process i) c (made ∷ [])) (os i)) os) deeds
+  pub prints : (s : Service) (n i : ℕ) (bytes : List ℕ) (os : Owners) (deeds : EndId → List Deed) → i < count → (os i).status ≡ Asks (call.Print bytes) → Stands version count s (suc n) os deeds
+      → HasRoom count n os → Stands version count s (suc n) (with_owner i (owner_told (call.Print bytes) (Some answer.Ok) (os i)) os) deeds
 
+module _ (version count : ℕ) (keep : StepsKeep version count) where
   -- steps that are no process's call
   pub uncalled-all : (part : List (ServiceStep × Service)) (s : Service) (n : ℕ) (os : Owners) (deeds : EndId → List Deed) → Stands version count s (suc n) os deeds → HasRoom count n os → IsRunFrom s part
       → AllByRecursion IsUncalled (steps_in part) → Stands version count (state_after s part) (suc n) (all_hear_steps (steps_in part) os) deeds
   uncalled-all [] s n os deeds is room run none = is
   uncalled-all (made ∷ part) s n os deeds is room run none =
-      uncalled-all part made.1 n (all_hear made.0 os) deeds (uncalled s made.0 made.1 n os deeds is room run.0 none.0) (room-stays count n os (all_hear made.0 os) (λ i. refl) room) run.1 none.1
+      uncalled-all part made.1 n (all_hear made.0 os) deeds (keep.uncalled s made.0 made.1 n os deeds is room run.0 none.0) (room-stays count n os (all_hear made.0 os) (λ i. refl) room) run.1 none.1
 
-  -- ---- an entry
+-- ---- an entry
 
-  -- what processes of other kernels hear is nothing
-  module _ (g : Setting) (s t : Service) (n : ℕ) (os qs : Owners) (deeds : EndId → List Deed) (steps : List ServiceStep) (before : Stands version count s n os deeds) (after : Stands version count t (suc n) qs deeds) where
-    pub unheard : (i : ℕ) → i < count → (qs i).status ≡ hears_steps i steps (os i).status → (t.process i).phase ≡ (s.process i).phase → hears_steps i steps (os i).status ≡ (os i).status
-    unheard i below is still =
-        stays-by-phase i steps (os i).status
-        (ap phase_of (sym is) ∙ sym (after.owners.each i below).phase ∙ still ∙ (before.owners.each i below).phase)
+-- what processes of other kernels hear is nothing
+module _ (version count : ℕ) (s t : Service) (n : ℕ) (os qs : Owners) (deeds : EndId → List Deed) (steps : List ServiceStep) (before : Stands version count s n os deeds) (after : Stands version count t (suc n) qs deeds) where
+  pub unheard : (i : ℕ) → i < count → (qs i).status ≡ hears_steps i steps (os i).status → (t.process i).phase ≡ (s.process i).phase → hears_steps i steps (os i).status ≡ (os i).status
+  unheard i below is still =
+      stays-by-phase i steps (os i).status
+      (ap phase_of (sym is) ∙ sym (after.owners.each i below).phase ∙ still ∙ (before.owners.each i below).phase)
