@@ -1,6 +1,7 @@
 -- An entry keeps the invariant: of a packet that is taken, or of a call.
-use Rattle.std.proofs.Common.{arith, ◌≡◌, ◌⊎◌, inl, inr, ⊎_elim, ℕ, zero, suc, ◌+◌, ◌*◌, ◌≤◌, ◌<◌, nat_eq, leb, Bool, true, false, if◌then◌else◌, List, [], ◌∷◌, ◌++◌, length, Option, Some, None, refl, sym, ap, subst, ◌∙◌, eq-eqb, eqb-true, leb_tells}
+use Rattle.std.proofs.Common.{arith, ◌≡◌, ◌⊎◌, inl, inr, ⊎_elim, ℕ, zero, suc, ◌+◌, ◌*◌, ◌≤◌, ◌<◌, nat_eq, leb, Bool, true, false, if◌then◌else◌, List, [], ◌∷◌, ◌++◌, length, Option, Some, None, refl, sym, ap, subst, ◌∙◌, eq-eqb, eqb-true}
 use Rattle.std.specs.List.{AllByRecursion}
+use Rattle.std.proofs.lemmas.Bool.Decides.{leb_tells}
 use Rattle.charlotte_calls.specs.declared.calls.Answer.{Answer}
 use Rattle.charlotte_calls.specs.declared.calls.Answer.TheVariants as answer
 use Rattle.charlotte_calls.specs.declared.calls.Call.{Call}
@@ -24,9 +25,10 @@ use Rattle.told_answers.specs.Told.{Heard, call_of, hears_by, heard_of, own_told
 use Rattle.entry_steps.specs.Entries.{AreOfCall, Granted, IsEntry, IsOwn, IsToldBy, IsUncalled, Refused}
 use Rattle.end_protocol.specs.Deeds.{Deed}
 use Rattle.process_run.specs.States.{State}
-use Rattle.language_links.specs.Acting.{Acting, Fleet, hears_entry, with_acting}
+use Rattle.process_run.specs.Runs.{step as step_of}
+use Rattle.language_links.specs.Acting.{Acting, Fleet, called, hears_entry, with_acting}
 use Rattle.request_acts.specs.Acted.{home_of, process}
-use Rattle.request_acts.proofs.Fleets.{heard-here, heard-not, heard_by, set-other, set-self}
+use Rattle.request_acts.proofs.Fleets.{asked_by, heard-here, heard-not, heard_by, set-other, set-self}
 use Rattle.followed_links.specs.Hearing.{all_hear, all_hear_steps, hears_step, hears_steps, owner_told, owners, told_of, with_owner}
 use Rattle.followed_links.specs.Invariant.{Owners, Stands}
 use Rattle.followed_links.specs.Owners.{Asks, Over, Owner, Pends, Runs, Status, Told, owner_of, status_of}
@@ -63,6 +65,66 @@ module _ (g : Setting) (e : Placed) (f : Fleet) (i : ℕ) where
   -- at another kernel
   heard-away : nat_eq (home_of g i) e.kernel ≡ false → owner_of hears ≡ owner_of (f i)
   heard-away away = ap owner_of (heard-not (home_of g) e f i away)
+
+-- ---- the steps of a call
+
+-- they begin with its own, and what it is told at last is what that and the others tell
+pub record Begins (i : ℕ) (c : Call) (steps : List ServiceStep) : Type 0 where
+  pub made : ServiceStep
+  pub more : List ServiceStep
+  pub is : steps ≡ made ∷ more
+  pub first : IsFirst i c made
+  pub uncalled : AllByRecursion IsUncalled more
+  pub tells : hears_steps i more (told_of c (own_told (process i) c (made ∷ []))) ≡ told_of c (own_told (process i) c (made ∷ more))
+
+-- a print has none
+abbrev pub IsPrint : Call → List ServiceStep → Type 0
+IsPrint c steps = (bytes : List ℕ) × (c ≡ call.Print bytes) × (steps ≡ [])
+
+module _ (i : ℕ) where
+  one-step : (c : Call) (made : ServiceStep) (own more steps : List ServiceStep) → own ≡ made ∷ [] → more ≡ [] → steps ≡ own ++ more → IsOwn (process i) c (made ∷ []) → Begins i c steps
+  one-step c made own more steps own_is more_is is own_step =
+      record {
+        made = made;
+        more = [];
+        is = is ∙ ap (λ (l : List ServiceStep). l ++ more) own_is ∙ ap (λ (l : List ServiceStep). made ∷ l) more_is;
+        first = inr own_step;
+        uncalled = tt;
+        tells = refl;
+      }
+
+  -- with one that comes of it
+  two-steps : (c : Call) (made then_made : ServiceStep) (own more steps : List ServiceStep) → own ≡ made ∷ [] → more ≡ then_made ∷ [] → steps ≡ own ++ more → IsOwn (process i) c (made ∷ []) → IsUncalled then_made
+      → hears_step i then_made (told_of c (own_told (process i) c (made ∷ []))) ≡ told_of c (own_told (process i) c (made ∷ then_made ∷ [])) → Begins i c steps
+  two-steps c made then_made own more steps own_is more_is is own_step uncalled tells =
+      record {
+        made = made;
+        more = then_made ∷ [];
+        is = is ∙ ap (λ (l : List ServiceStep). l ++ more) own_is ∙ ap (λ (l : List ServiceStep). made ∷ l) more_is;
+        first = inr own_step;
+        uncalled = (uncalled, tt);
+        tells = tells;
+      }
+
+  granted : (c : Call) (own more steps : List ServiceStep) → steps ≡ own ++ more → IsOwn (process i) c own → IsToldBy (process i) c more → IsPrint c steps ⊎ Begins i c steps
+  granted call.Make own more steps is at none = inr (one-step call.Make (step.Make (process i) at.0 at.1) own more steps at.2 none is (at.0, at.1, refl))
+  granted (call.Destroy on) own more steps is at none = inr (one-step (call.Destroy on) (step.Destroy on) own more steps at none is refl)
+  granted (call.Send on bytes xs) own more steps is at (inl none) = inr (one-step (call.Send on bytes xs) (step.Send on at.0 bytes xs) own more steps at.1 none is (at.0, refl))
+  granted (call.Send on bytes xs) own more steps is at (inr matched) =
+      inr (two-steps (call.Send on bytes xs) (step.Send on at.0 bytes xs) (step.Match on matched.0) own more steps at.1 matched.1 is (at.0, refl) tt refl)
+  granted (call.Receive on) own more steps is at none = inr (one-step (call.Receive on) (step.Receive on) own more steps at none is refl)
+  granted (call.Cancel on Inward) own more steps is at none = inr (one-step (call.Cancel on Inward) (step.Cancel on Inward) own more steps at none is refl)
+  granted (call.Cancel on Outward) own more steps is at none = inr (one-step (call.Cancel on Outward) (step.Cancel on Outward) own more steps at none is refl)
+  granted call.Wait own more steps is at (inl none) = inr (one-step call.Wait (step.Wait (process i)) own more steps at none is refl)
+  granted call.Wait own more steps is at (inr told) =
+      inr (two-steps call.Wait (step.Wait (process i)) (step.Report (process i) told.0) own more steps at told.1 is refl tt refl)
+  granted (call.Print bytes) own more steps is at none = inl (bytes, refl, is ∙ ap (λ (l : List ServiceStep). l ++ more) at ∙ none)
+  granted call.Exit own more steps is at none = inr (one-step call.Exit (step.Exit (process i)) own more steps at none is refl)
+
+  pub steps-begin : (c : Call) (steps : List ServiceStep) → AreOfCall (process i) c steps → IsPrint c steps ⊎ Begins i c steps
+  steps-begin c steps (Refused cause is) =
+      inr (record { made = step.Refuse (process i) c cause; more = []; is = is; first = inl (cause, refl); uncalled = tt; tells = refl })
+  steps-begin c steps (Granted own more is at told) = granted c own more steps is at told
 
 -- ---- all processes
 
@@ -121,3 +183,151 @@ module _ (g : Setting) (version count : ℕ) (keep : StepsKeep version count) (s
 
     pub taking-stands : Stands version count t (suc n) (owners (hears_entry (home_of g) e f)) deeds
     taking-stands = subst (λ (os : Owners). Stands version count t (suc n) os deeds) (same-owners qs (owners (hears_entry (home_of g) e f)) one) after
+
+  -- ---- a call
+
+  -- the process asks it in its step
+  module _ (f : Fleet) (deeds : EndId → List Deed) (p : Pid) (c : Call) (given : Option Answer) (made_next : (step_of (f p.0).replayed.state given).0 ≡ next.Ask c) (below : p.0 < count)
+      (is_called : call_of p e.entry.what ≡ Some c) (others : (i : ℕ) → nat_eq p.0 i ≡ false → call_of (process i) e.entry.what ≡ None) (here : nat_eq (home_of g p.0) e.kernel ≡ true) (idle : AreIdle count f)
+      (mine : IsMine s p.0 c) (bytes : HasBytes c) where
+    abbrev asker : Owner
+    asker = record { state = (step_of (f p.0).replayed.state given).1; status = Asks c }
+
+    abbrev os : Owners
+    os = with_owner p.0 asker (owners f)
+
+    abbrev to : Fleet
+    to = hears_entry (home_of g) e (asked_by p given f)
+
+    at-p : (x : Owner) (rs : Owners) → with_owner p.0 x rs p.0 ≡ x
+    at-p x rs = ap (λ (b : Bool). if b then x else rs p.0) (eq-eqb p.0 p.0 refl)
+
+    at-other : (x : Owner) (rs : Owners) (i : ℕ) → nat_eq p.0 i ≡ false → with_owner p.0 x rs i ≡ rs i
+    at-other x rs i other = ap (λ (b : Bool). if b then x else rs i) other
+
+    module _ (is : Stands version count s n os deeds) where
+      -- it is told so, and others hear the steps behind the first
+      told-p : owner_of (to p.0) ≡ record asker { status = told_of c (own_told p c e.entry.steps) }
+      told-p =
+          heard-called g e (asked_by p given f) p.0 c c is_called here
+          (ap (λ (z : Acting). z.replayed.last) (set-self p (called given (f p.0)) f) ∙ ap Some made_next)
+          ∙ ap (λ (z : Acting). record { state = z.replayed.state; status = told_of c (own_told p c e.entry.steps) }) (set-self p (called given (f p.0)) f)
+
+      other-is : (i : ℕ) → nat_eq p.0 i ≡ false → owner_of (asked_by p given f i) ≡ owner_of (f i)
+      other-is i other = ap owner_of (set-other p (called given (f p.0)) f i other)
+
+      status-before : (i : ℕ) → nat_eq p.0 i ≡ false → count ≤ i → (os i).status ≡ Runs
+      status-before i other above = ap (λ (o : Owner). o.status) (at-other asker (owners f) i other) ∙ ap (λ (l : Option Next). status_of l (f i).replayed.heard) (idle i above)
+
+      by-owners : (qs : Owners) → Stands version count t (suc n) qs deeds → ((i : ℕ) → qs i ≡ owner_of (to i)) → Stands version count t (suc n) (owners to) deeds
+      by-owners qs after one = subst (λ (rs : Owners). Stands version count t (suc n) rs deeds) (same-owners qs (owners to) one) after
+
+      -- who is not told by these steps of an entry hears them so
+      other-told : (qs : Owners) (more : List ServiceStep) → Stands version count t (suc n) qs deeds → (i : ℕ) → nat_eq p.0 i ≡ false → qs i ≡ hearing i more (owner_of (f i))
+          → hears_steps i e.entry.steps (owner_of (f i)).status ≡ hears_steps i more (owner_of (f i)).status → qs i ≡ owner_of (to i)
+      other-told qs more after i other is_so same = by (nat_eq (home_of g i) e.kernel) refl
+        where
+          by : (b : Bool) → nat_eq (home_of g i) e.kernel ≡ b → qs i ≡ owner_of (to i)
+          by true at =
+              is_so ∙ ap (λ (status : Status). record (owner_of (f i)) { status = status }) (sym same)
+              ∙ sym (heard-uncalled g e (asked_by p given f) i (others i other) at ∙ ap (hearing i e.entry.steps) (other-is i other))
+          by false away =
+              is_so
+              ∙ ap (λ (status : Status). record (owner_of (f i)) { status = status })
+              (ap (λ (o : Owner). hears_steps i more o.status) (sym (at-other asker (owners f) i other))
+              ∙ away-stays os qs deeds more is after i (status-before i other) (ap (λ (o : Owner). o.status) is_so ∙ ap (λ (o : Owner). hears_steps i more o.status) (sym (at-other asker (owners f) i other))) away
+              ∙ ap (λ (o : Owner). o.status) (at-other asker (owners f) i other))
+              ∙ sym (heard-away g e (asked_by p given f) i away ∙ other-is i other)
+
+      -- a print
+      printed : (bytes : List ℕ) → c ≡ call.Print bytes → e.entry.steps ≡ [] → Stands version count t (suc n) (owners to) deeds
+      printed bytes print none = by-owners qs after one
+        where
+          qs : Owners
+          qs = with_owner p.0 (owner_told (call.Print bytes) (Some answer.Ok) (os p.0)) os
+
+          nothing : (l : List (ServiceStep × Service)) → steps_in l ≡ [] → state_after s l ≡ s
+          nothing [] e = refl
+          nothing (x ∷ l) e = let no : x.0 ∷ steps_in l ≡ [] = e in absurd cc
+
+          after : Stands version count t (suc n) qs deeds
+          after =
+              subst (λ (u : Service). Stands version count u (suc n) qs deeds) (sym (nothing part (entry.steps ∙ none)))
+              (keep.prints s n p.0 bytes os deeds below (ap (λ (o : Owner). o.status) (at-p asker (owners f)) ∙ ap Asks print) (more-entries version count n s os deeds is) (room-of version count n s os deeds is))
+
+          one : (i : ℕ) → qs i ≡ owner_of (to i)
+          one i = by (nat_eq p.0 i) refl
+            where
+              its : qs p.0 ≡ owner_of (to p.0)
+              its =
+                  at-p (owner_told (call.Print bytes) (Some answer.Ok) (os p.0)) os ∙ ap (owner_told (call.Print bytes) (Some answer.Ok)) (at-p asker (owners f))
+                  ∙ ap (λ (d : Call). record asker { status = told_of d (own_told p d []) }) (sym print)
+                  ∙ ap (λ (l : List ServiceStep). record asker { status = told_of c (own_told p c l) }) (sym none) ∙ sym told-p
+
+              by : (b : Bool) → nat_eq p.0 i ≡ b → qs i ≡ owner_of (to i)
+              by true same = subst (λ (j : ℕ). qs j ≡ owner_of (to j)) (eqb-true p.0 i same) its
+              by false other =
+                  other-told qs [] after i other (at-other (owner_told (call.Print bytes) (Some answer.Ok) (os p.0)) os i other ∙ at-other asker (owners f) i other)
+                  (ap (λ (l : List ServiceStep). hears_steps i l (owner_of (f i)).status) none)
+
+      -- any other call
+      begun : Begins p.0 c e.entry.steps → Stands version count t (suc n) (owners to) deeds
+      begun b = by-part part refl
+        where
+          rs : Owners
+          rs = with_owner p.0 (owner_told c (own_told p c (b.made ∷ [])) (os p.0)) os
+
+          qs : Owners
+          qs = all_hear_steps b.more rs
+
+          by-part : (l : List (ServiceStep × Service)) → part ≡ l → Stands version count t (suc n) (owners to) deeds
+          by-part [] empty = let no : [] ≡ b.made ∷ b.more = sym (ap steps_in empty) ∙ entry.steps ∙ b.is in absurd cc
+          by-part (x ∷ l) full =
+              let both : x.0 ∷ steps_in l ≡ b.made ∷ b.more = sym (ap steps_in full) ∙ entry.steps ∙ b.is in
+              let head : x.0 ≡ b.made = cc in
+              let tail : steps_in l ≡ b.more = cc in
+              let run : IsServiceStep s x.0 x.1 × IsRunFrom x.1 l = subst (IsRunFrom s) full entry.run in
+              let one_made : Stands version count x.1 (suc n) rs deeds =
+              keep.first s b.made x.1 n p.0 c os deeds below (ap (λ (o : Owner). o.status) (at-p asker (owners f))) (more-entries version count n s os deeds is) (room-of version count n s os deeds is)
+              (subst (λ (m : ServiceStep). IsServiceStep s m x.1) head run.0) b.first mine bytes in
+              let all : Stands version count (state_after x.1 l) (suc n) (all_hear_steps (steps_in l) rs) deeds =
+              uncalled-all version count keep l x.1 n rs deeds one_made (room-rs (room-of version count n s os deeds is)) run.1 (subst (λ (m : List ServiceStep). AllByRecursion IsUncalled m) (sym tail) b.uncalled) in
+              let after : Stands version count t (suc n) qs deeds =
+              subst (λ (u : Service). Stands version count u (suc n) qs deeds) (sym (ap (state_after s) full)) (subst (λ (m : List ServiceStep). Stands version count (state_after x.1 l) (suc n) (all_hear_steps m rs) deeds) tail all) in
+              by-owners qs after (one after)
+            where
+              room-rs : HasRoom count n os → HasRoom count n rs
+              room-rs room i within = subst (λ (o : Owner). length o.state.places ≤ 8192 + 8 * n) (sym (state-same i)) (room i within)
+                where
+                  state-same : (i : ℕ) → rs i ≡ record (os i) { status = (rs i).status }
+                  state-same i = by (nat_eq p.0 i) refl
+                    where
+                      by : (t : Bool) → nat_eq p.0 i ≡ t → rs i ≡ record (os i) { status = (rs i).status }
+                      by true same = subst (λ (j : ℕ). rs j ≡ record (os j) { status = (rs j).status }) (eqb-true p.0 i same) (at-p (owner_told c (own_told p c (b.made ∷ [])) (os p.0)) os ∙ ap (λ (status : Status). record (os p.0) { status = status }) (sym (ap (λ (o : Owner). o.status) (at-p (owner_told c (own_told p c (b.made ∷ [])) (os p.0)) os))))
+                      by false other = at-other (owner_told c (own_told p c (b.made ∷ [])) (os p.0)) os i other ∙ ap (λ (status : Status). record (os i) { status = status }) (sym (ap (λ (o : Owner). o.status) (at-other (owner_told c (own_told p c (b.made ∷ [])) (os p.0)) os i other)))
+
+              its : qs p.0 ≡ owner_of (to p.0)
+              its =
+                  ap (hearing p.0 b.more) (at-p (owner_told c (own_told p c (b.made ∷ [])) (os p.0)) os ∙ ap (owner_told c (own_told p c (b.made ∷ []))) (at-p asker (owners f)))
+                  ∙ ap (λ (status : Status). record asker { status = status }) (b.tells ∙ ap (λ (l : List ServiceStep). told_of c (own_told p c l)) (sym b.is)) ∙ sym told-p
+
+              skips : (i : ℕ) (status : Status) → hears_step i b.made status ≡ status
+              skips i Runs = refl
+              skips i (Asks d) = refl
+              skips i (Pends d) = first-silent p.0 i c b.made b.first d
+              skips i (Told d a) = refl
+              skips i Over = refl
+
+              one : Stands version count t (suc n) qs deeds → (i : ℕ) → qs i ≡ owner_of (to i)
+              one after i = by (nat_eq p.0 i) refl
+                where
+                  by : (t : Bool) → nat_eq p.0 i ≡ t → qs i ≡ owner_of (to i)
+                  by true same = subst (λ (j : ℕ). qs j ≡ owner_of (to j)) (eqb-true p.0 i same) its
+                  by false other =
+                      other-told qs b.more after i other
+                      (ap (hearing i b.more) (at-other (owner_told c (own_told p c (b.made ∷ [])) (os p.0)) os i other ∙ at-other asker (owners f) i other))
+                      (ap (λ (l : List ServiceStep). hears_steps i l (owner_of (f i)).status) b.is ∙ ap (hears_steps i b.more) (skips i (owner_of (f i)).status))
+
+      pub calling-stands : AreOfCall p c e.entry.steps → Stands version count t (suc n) (owners to) deeds
+      calling-stands of_call =
+          ⊎_elim (λ (print : IsPrint c e.entry.steps). printed print.0 print.1 print.2) begun (steps-begin p.0 c e.entry.steps of_call)
