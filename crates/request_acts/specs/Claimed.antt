@@ -10,14 +10,18 @@ use Rattle.service_step.specs.Run.{start_state, state_after}
 use Rattle.service_step.specs.declared.state.Place.TheVariants.{Owned}
 use Rattle.theorem.specs.Law.{joined}
 use Rattle.theorem.specs.Record.{IsLawfulRecord}
+use Rattle.process_run.specs.States.{start_of}
+use Rattle.process_sound.specs.Processes.{IsRunning}
 use Rattle.language_links.specs.Acting.{Program}
 use Rattle.language_links.specs.Claims.{AreCarried, AreInOrder, States}
 use Rattle.request_acts.specs.Acted.{AreActed, deeds_of, process}
 
--- each process begins with ends that the setting wires to it, each once
+-- each process begins with ends that the setting wires to it, each once, and with code that is sound
 pub record AreWired (s : Setting) (programs : ℕ → Program) : Type 0 where
   pub own : (i : ℕ) → i < length s.homes → AllByRecursion (λ x. ((start_state s).ends x).place ≡ Owned (process i)) (programs i).ends
   pub apart : (i : ℕ) → i < length s.homes → IsDistinct end_eq (programs i).ends
+  pub few : (i : ℕ) → i < length s.homes → length (programs i).ends ≤ 8192
+  pub sound : (i : ℕ) → i < length s.homes → IsRunning (start_of s.version (programs i).code (programs i).ends)
 
 -- the service after so many entries of a run
 abbrev pub states_of : (s : Setting) (merged : List Placed) → IsLawfulRecord s merged → States
