@@ -56,8 +56,11 @@ pub record AreWoven (s : Service) (since : ℕ → List DeedOn) (past : List Don
   pub rest : (x : EndId) → IsUnowned s x → deeds x ≡ deeds_on x past
   pub none : (x : EndId) (i : ℕ) → ((s.ends x).place ≡ place.Owned (process i) → ⊥) → deeds_at x (since i) ≡ []
 
-same-owner : (i j : ℕ) (at : Place) → at ≡ place.Owned (process i) → at ≡ place.Owned (process j) → i ≡ j
-same-owner i j at one two = let both : place.Owned (process i) ≡ place.Owned (process j) = sym one ∙ two in cc
+pub same-owner : (i j : ℕ) (at : Place) → at ≡ place.Owned (process i) → at ≡ place.Owned (process j) → i ≡ j
+same-owner i j at one two = ap (λ (p : Pid). p.0) (same (process i) (process j) (sym one ∙ two))
+  where
+    same : (p q : Pid) → place.Owned p ≡ place.Owned q → p ≡ q
+    same p q both = cc
 
 -- the process of this number does more
 abbrev pub adding : ℕ → List DeedOn → (ℕ → List DeedOn) → ℕ → List DeedOn
