@@ -31,14 +31,14 @@ given-is (Some next.Ended) h (Some a) is = absurd is
 given-is (Some next.Ended) h None is = absurd is
 
 pub paused-status : (m : Next) (h : Heard) → IsNoCall m → status_of (Some m) h ≡ after_step m
-paused-status (next.Ask c) h no = absurd no
-paused-status next.Pause h no = refl
-paused-status next.Ended h no = refl
+paused-status (next.Ask c) h without = absurd without
+paused-status next.Pause h without = refl
+paused-status next.Ended h without = refl
 
 pub paused-given : (m : Next) → IsNoCall m → given_of (after_step m) ≡ None
-paused-given (next.Ask c) no = absurd no
-paused-given next.Pause no = refl
-paused-given next.Ended no = refl
+paused-given (next.Ask c) without = absurd without
+paused-given next.Pause without = refl
+paused-given next.Ended without = refl
 
 -- ---- bytes
 
@@ -92,7 +92,7 @@ made-told (step.Notice e dead) is = tt
 made-told (step.Back e n dead) is = tt
 
 report-told : (q : Pid) (made : ServiceStep) → IsStepInRange made → IsTold (report_in q made)
-report-told q (step.Report p r) is = told-if (nat_eq q.0 p.0) (answer.Reported r) (is.1.bytes)
+report-told q (step.Report p r) is = told-if (nat_eq q.0 p.0) (answer.Reported r) is.1.bytes.each
 report-told q (step.Make p a b) is = tt
 report-told q (step.Refuse p c cause) is = tt
 report-told q (step.Destroy e) is = tt

@@ -1,0 +1,104 @@
+-- Along a replay of all processes the invariant stands, with the deeds of the run.
+use Rattle.std.proofs.Common.{arith, ◌≡◌, ◌⊎◌, inl, inr, ⊎_elim, ℕ, zero, suc, ◌+◌, ◌*◌, ◌^◌, ◌≤◌, ◌<◌, nat_eq, Bool, true, false, if◌then◌else◌, List, [], ◌∷◌, ◌++◌, length, All, Option, Some, None, refl, sym, ap, subst, ◌∙◌, eq-eqb, eqb-true, append-nil, append_assoc}
+use Rattle.std.proofs.lemmas.List.Elements.{All-head, All-tail}
+use Rattle.std.specs.List.{AllByRecursion}
+use Rattle.charlotte_calls.specs.Ranges.{IsStepInRange}
+use Rattle.charlotte_calls.specs.declared.calls.Answer.{Answer}
+use Rattle.charlotte_calls.specs.declared.calls.Call.{Call}
+use Rattle.charlotte_calls.specs.declared.calls.Call.TheVariants as call
+use Rattle.charlotte_calls.specs.declared.calls.ServiceStep.{ServiceStep}
+use Rattle.charlotte_calls.specs.declared.calls.ServiceStep.TheVariants as step
+use Rattle.charlotte_calls.specs.declared.names.EndId.{EndId}
+use Rattle.charlotte_calls.specs.declared.names.Pid.{Pid}
+use Rattle.charlotte_calls.specs.declared.names.Way.TheVariants as way
+use Rattle.charlotte_calls.specs.declared.program.Next.{Next}
+use Rattle.charlotte_calls.specs.declared.program.Next.TheVariants as next
+use Rattle.charlotte_calls.specs.declared.setting.Setting.{Setting}
+use Rattle.kernel_entries.specs.Ranges.{IsHappenedInRange, IsPlacedInRange}
+use Rattle.kernel_entries.specs.declared.entry.Happened.TheVariants.{Asked, Took}
+use Rattle.kernel_entries.specs.declared.entry.Happened.{Happened}
+use Rattle.kernel_entries.specs.declared.entry.Placed.{Placed}
+use Rattle.service_lawful.specs.Consistent.{IsConsistent}
+use Rattle.service_step.specs.Run.{IsRunFrom, state_after}
+use Rattle.service_step.specs.State.{State as Service}
+use Rattle.service_step.specs.Steps.{IsServiceStep}
+use Rattle.service_step.specs.declared.state.Place.TheVariants as place
+use Rattle.service_streams.specs.Streams.{cancels_send, steps_in}
+use Rattle.service_custody.specs.Moves.{Moves}
+use Rattle.told_answers.specs.Told.{Heard, call_of, hears_by}
+use Rattle.program_runs.specs.Replay.{IsGiven, IsNoCall}
+use Rattle.entry_steps.specs.Entries.{AreEntries, AreOfCall, AreOfEntry, IsEntry, IsOwn, IsUncalled}
+use Rattle.end_protocol.specs.Deeds.{Deed}
+use Rattle.process_run.specs.States.{DeedOn, State}
+use Rattle.process_run.specs.Runs.{Did, deeds as step_deeds, did, step as step_of}
+use Rattle.process_sound.specs.Told.{IsTold}
+use Rattle.process_changes.specs.AtEnd.{deeds_at}
+use Rattle.language_links.specs.Acting.{Acting, Acts, Calls, Done, Fleet, IsAsking, IsPausing, Pauses, Rests, Takes, called, deeds_before, done_by, hears_entry, paused, with_acting}
+use Rattle.request_acts.specs.Acted.{home_of, process}
+use Rattle.request_acts.proofs.Fleets.{asked_by, heard-here, heard-not, set-other, set-self}
+use Rattle.followed_links.specs.Hearing.{owners, with_owner}
+use Rattle.followed_links.specs.Invariant.{Owners, Stands}
+use Rattle.followed_links.specs.Owners.{Asks, Over, Owner, Pends, Runs, Status, given_of, owner_of, status_of}
+use Rattle.followed_links.specs.Steps.{HasBytes, IsFirst, IsMine, IsStepped, MayStep, after_step, owner_after}
+use Rattle.followed_links.proofs.Entries.{StepsKeep}
+use Rattle.followed_links.proofs.Calling.{AreIdle, below-or-above, calling-stands, same-owners, taking-stands}
+use Rattle.followed_links.proofs.Passing.{IsOwnStep, weaves-step, weaves-uncalled}
+use Rattle.followed_links.proofs.Told.{given-is, hears-told, paused-given, paused-status}
+use Rattle.followed_links.proofs.Weaving.{AreWoven, adding, flushing, weaves-call, weaves-on}
+
+-- steps of processes keep the invariant
+pub record ProcessesKeep (version count : ℕ) : Type 0 where
+  pub steps : (s : Service) (n : ℕ) (os : Owners) (deeds : EndId → List Deed) (i : ℕ) → Stands version count s n os deeds → n ≤ 2 ^ 28 → i < count → MayStep (os i).status → IsTold (given_of (os i).status)
+      → IsStepped version count s n os deeds i (did (os i).state (given_of (os i).status))
+
+-- what each step of the service does with ends
+pub record ServiceMoves : Type 0 where
+  pub moves : (s : Service) (made : ServiceStep) (t : Service) (x : EndId) → IsConsistent s → ((e : EndId) → cancels_send e made ≡ false) → IsServiceStep s made t → Moves s made t x
+  pub consistent : (s : Service) (made : ServiceStep) (t : Service) → IsConsistent s → IsServiceStep s made t → IsConsistent t
+
+-- a step more at most
+steps-grow : {home : ℕ → ℕ} {n : ℕ} {f g : Fleet} {es : List Placed} {ds : List Done} → Acts home n f es ds g → (i : ℕ) → (f i).replayed.steps ≤ (g i).replayed.steps
+steps-grow (Rests n f) i = omega arith
+steps-grow (Pauses n f p given es ds g pausing acts) i = by (nat_eq p.0 i) refl (steps-grow acts i)
+  where
+    by : (b : Bool) → nat_eq p.0 i ≡ b → (with_acting p (paused given (f p.0)) f i).replayed.steps ≤ (g i).replayed.steps → (f i).replayed.steps ≤ (g i).replayed.steps
+    by true same rest =
+        let at : (with_acting p (paused given (f p.0)) f i).replayed.steps ≡ (f i).replayed.steps + 1 =
+        subst (λ (j : ℕ). (with_acting p (paused given (f p.0)) f j).replayed.steps ≡ (f j).replayed.steps + 1) (eqb-true p.0 i same) (ap (λ (z : Acting). z.replayed.steps) (set-self p (paused given (f p.0)) f)) in
+        omega (arith, rest, at)
+    by false other rest = let at = ap (λ (z : Acting). z.replayed.steps) (set-other p (paused given (f p.0)) f i other) in omega (arith, rest, at)
+steps-grow {home = home} (Calls n f p given c e es ds g own call asking acts) i = by (nat_eq p.0 i) refl (nat_eq (home i) e.kernel) refl (steps-grow acts i)
+  where
+    heard : (b : Bool) → nat_eq (home i) e.kernel ≡ b → (hears_entry home e (asked_by p given f) i).replayed.steps ≡ (asked_by p given f i).replayed.steps
+    heard true here = ap (λ (z : Acting). z.replayed.steps) (heard-here home e (asked_by p given f) i here)
+    heard false away = ap (λ (z : Acting). z.replayed.steps) (heard-not home e (asked_by p given f) i away)
+
+    by : (b : Bool) → nat_eq p.0 i ≡ b → (h : Bool) → nat_eq (home i) e.kernel ≡ h → (hears_entry home e (asked_by p given f) i).replayed.steps ≤ (g i).replayed.steps → (f i).replayed.steps ≤ (g i).replayed.steps
+    by true same h at_h rest =
+        let at : (asked_by p given f i).replayed.steps ≡ (f i).replayed.steps + 1 =
+        subst (λ (j : ℕ). (asked_by p given f j).replayed.steps ≡ (f j).replayed.steps + 1) (eqb-true p.0 i same) (ap (λ (z : Acting). z.replayed.steps) (set-self p (called given (f p.0)) f)) in
+        let hear = heard h at_h in
+        omega (arith, rest, at, hear)
+    by false other h at_h rest =
+        let at = ap (λ (z : Acting). z.replayed.steps) (set-other p (called given (f p.0)) f i other) in
+        let hear = heard h at_h in
+        omega (arith, rest, at, hear)
+steps-grow {home = home} (Takes n f e es ds g none acts) i = by (nat_eq (home i) e.kernel) refl (steps-grow acts i)
+  where
+    by : (b : Bool) → nat_eq (home i) e.kernel ≡ b → (hears_entry home e f i).replayed.steps ≤ (g i).replayed.steps → (f i).replayed.steps ≤ (g i).replayed.steps
+    by true here rest = let at = ap (λ (z : Acting). z.replayed.steps) (heard-here home e f i here) in omega (arith, rest, at)
+    by false away rest = let at = ap (λ (z : Acting). z.replayed.steps) (heard-not home e f i away) in omega (arith, rest, at)
+
+-- ---- along the entries
+
+abbrev since_of : Fleet → ℕ → List DeedOn
+since_of f i = (f i).since
+
+-- so it stands after so many entries
+pub record IsFollowing (version count : ℕ) (s : Service) (n : ℕ) (f : Fleet) (past : List Done) : Type 0 where
+  pub deeds : EndId → List Deed
+  pub stands : Stands version count s n (owners f) deeds
+  pub idle : AreIdle count f
+  pub silent : (i : ℕ) → count ≤ i → since_of f i ≡ []
+  pub told : (i : ℕ) → IsTold (given_of (owner_of (f i)).status)
+  pub woven : AreWoven s (since_of f) past deeds
