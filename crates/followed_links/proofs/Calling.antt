@@ -132,10 +132,10 @@ module _ (i : ℕ) where
 abbrev pub AreIdle : ℕ → Fleet → Type 0
 AreIdle count f = (i : ℕ) → count ≤ i → (f i).replayed.last ≡ None
 
-same-owners : (os qs : Owners) → ((i : ℕ) → os i ≡ qs i) → os ≡ qs
+pub same-owners : (os qs : Owners) → ((i : ℕ) → os i ≡ qs i) → os ≡ qs
 same-owners os qs each = λ j i. each i j
 
-below-or-above : (count i : ℕ) → (i < count) ⊎ (count ≤ i)
+pub below-or-above : (count i : ℕ) → (i < count) ⊎ (count ≤ i)
 below-or-above count i = by (leb_tells count i)
   where
     by : ((leb count i ≡ true) × (count ≤ i)) ⊎ ((leb count i ≡ false) × (i < count)) → (i < count) ⊎ (count ≤ i)

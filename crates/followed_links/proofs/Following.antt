@@ -102,3 +102,77 @@ pub record IsFollowing (version count : ℕ) (s : Service) (n : ℕ) (f : Fleet)
   pub silent : (i : ℕ) → count ≤ i → since_of f i ≡ []
   pub told : (i : ℕ) → IsTold (given_of (owner_of (f i)).status)
   pub woven : AreWoven s (since_of f) past deeds
+
+same-since : (a b : ℕ → List DeedOn) → ((i : ℕ) → a i ≡ b i) → a ≡ b
+same-since a b each = λ j i. each i j
+
+-- at the number of a process, and at others
+pick : {X : Type 0} (i j : ℕ) (P : X → Type 0) (x : X) (f : ℕ → X) → (nat_eq i j ≡ true → P x) → (nat_eq i j ≡ false → P (f j)) → P (if nat_eq i j then x else f j)
+pick i j P x f its others = by (nat_eq i j) refl
+  where
+    by : (b : Bool) → nat_eq i j ≡ b → P (if b then x else f j)
+    by true same = its same
+    by false other = others other
+
+module _ (g : Setting) (version count : ℕ) (services : StepsKeep version count) (processes : ProcessesKeep version count) (moving : ServiceMoves) where
+  -- ---- a step without a call
+
+  module _ (s : Service) (n : ℕ) (f : Fleet) (past : List Done) (is : IsFollowing version count s n f past) (few : n ≤ 2 ^ 28) (p : Pid) (below : p.0 < count) (given : Option Answer) where
+    abbrev now : Acting
+    now = f p.0
+
+    abbrev d : Did
+    d = did now.replayed.state given
+
+    -- what it is given is what it was told
+    stepped : IsGiven now.replayed.last now.replayed.heard given → IsStepped version count s n (owners f) is.deeds p.0 d
+    stepped is_given =
+        let may = given-is now.replayed.last now.replayed.heard given is_given in
+        subst (λ (o : Option Answer). IsStepped version count s n (owners f) is.deeds p.0 (did now.replayed.state o)) (sym may.1)
+        (processes.steps s n (owners f) is.deeds p.0 is.stands few below may.0 (is.told p.0))
+
+    module _ (pausing : IsPausing now given) where
+      abbrev to : Fleet
+      to = with_acting p (paused given now) f
+
+      one-step : IsStepped version count s n (owners f) is.deeds p.0 d
+      one-step = stepped pausing.is_given
+
+      its-owner : owner_of (paused given now) ≡ owner_after d
+      its-owner = ap (λ (status : Status). record { state = d.state; status = status }) (paused-status d.next now.replayed.heard pausing.no_call)
+
+      one-owner : (i : ℕ) → with_owner p.0 (owner_after d) (owners f) i ≡ owner_of (to i)
+      one-owner i = by (nat_eq p.0 i) refl
+        where
+          by : (b : Bool) → nat_eq p.0 i ≡ b → (if b then owner_after d else owner_of (f i)) ≡ owner_of (if b then paused given now else f i)
+          by true same = sym its-owner
+          by false other = refl
+
+      one-since : (i : ℕ) → adding p.0 d.deeds (since_of f) i ≡ since_of to i
+      one-since i = by (nat_eq p.0 i)
+        where
+          by : (b : Bool) → (if b then since_of f p.0 ++ d.deeds else since_of f i) ≡ since_of (λ (j : ℕ). if b then paused given now else f j) i
+          by true = refl
+          by false = refl
+
+      not-it : (i : ℕ) → count ≤ i → nat_eq p.0 i ≡ false
+      not-it i above = by (nat_eq p.0 i) refl
+        where
+          by : (b : Bool) → nat_eq p.0 i ≡ b → b ≡ false
+          by true same = let e = eqb-true p.0 i same in absurd (omega (arith, e, below, above))
+          by false other = refl
+
+      pub pauses-follow : IsFollowing version count s n to past
+      pauses-follow = record {
+        deeds = λ x. is.deeds x ++ deeds_at x d.deeds;
+        stands = subst (λ (os : Owners). Stands version count s n os (λ x. is.deeds x ++ deeds_at x d.deeds)) (same-owners (with_owner p.0 (owner_after d) (owners f)) (owners to) one-owner) one-step.stands;
+        idle = λ i above. ap (λ (z : Acting). z.replayed.last) (set-other p (paused given now) f i (not-it i above)) ∙ is.idle i above;
+        silent = λ i above. ap (λ (z : Acting). z.since) (set-other p (paused given now) f i (not-it i above)) ∙ is.silent i above;
+        told =
+            λ i. pick p.0 i (λ (z : Acting). IsTold (given_of (owner_of z).status)) (paused given now) f
+            (λ same. subst (λ (o : Option Answer). IsTold o) (sym (ap (λ (o : Owner). given_of o.status) its-owner ∙ paused-given d.next pausing.no_call)) tt)
+            (λ other. is.told i);
+        woven =
+            subst (λ (l : ℕ → List DeedOn). AreWoven s l past (λ x. is.deeds x ++ deeds_at x d.deeds)) (same-since (adding p.0 d.deeds (since_of f)) (since_of to) one-since)
+            (weaves-on s (since_of f) past is.deeds is.woven p.0 d.deeds one-step.elsewhere);
+      }
