@@ -35,7 +35,8 @@ use Rattle.process_sound.specs.Told.{IsTold}
 use Rattle.process_changes.specs.AtEnd.{deeds_at}
 use Rattle.language_links.specs.Acting.{Acting, Acts, Calls, Done, Fleet, IsAsking, IsPausing, Pauses, Rests, Takes, called, deeds_before, done_by, hears_entry, paused, with_acting}
 use Rattle.request_acts.specs.Acted.{home_of, process}
-use Rattle.request_acts.proofs.Fleets.{asked_by, heard-here, heard-not, set-other, set-self}
+use Rattle.request_acts.proofs.Callers.{none-else, own-call}
+use Rattle.request_acts.proofs.Fleets.{asked_by, heard-here, heard-not, heard_by, set-other, set-self}
 use Rattle.followed_links.specs.Hearing.{owners, with_owner}
 use Rattle.followed_links.specs.Invariant.{Owners, Stands}
 use Rattle.followed_links.specs.Owners.{Asks, Over, Owner, Pends, Runs, Status, given_of, owner_of, status_of}
@@ -43,7 +44,7 @@ use Rattle.followed_links.specs.Steps.{HasBytes, IsFirst, IsMine, IsStepped, May
 use Rattle.followed_links.proofs.Entries.{StepsKeep}
 use Rattle.followed_links.proofs.Calling.{AreIdle, below-or-above, calling-stands, same-owners, taking-stands}
 use Rattle.followed_links.proofs.Passing.{IsOwnStep, weaves-step, weaves-uncalled}
-use Rattle.followed_links.proofs.Told.{given-is, hears-told, paused-given, paused-status}
+use Rattle.followed_links.proofs.Told.{called-told, given-is, hears-told, paused-given, paused-status}
 use Rattle.followed_links.proofs.Weaving.{AreWoven, adding, flushing, weaves-call, weaves-on}
 
 -- steps of processes keep the invariant
@@ -176,3 +177,76 @@ module _ (g : Setting) (version count : ℕ) (services : StepsKeep version count
             subst (λ (l : ℕ → List DeedOn). AreWoven s l past (λ x. is.deeds x ++ deeds_at x d.deeds)) (same-since (adding p.0 d.deeds (since_of f)) (since_of to) one-since)
             (weaves-on s (since_of f) past is.deeds is.woven p.0 d.deeds one-step.elsewhere);
       }
+
+  -- ---- an entry
+
+  heard-same : {X : Type 0} (part_of : Acting → X) → ((i : ℕ) (e : Placed) (x : Acting) → part_of (heard_by i e.entry x) ≡ part_of x) → (e : Placed) (f : Fleet) (i : ℕ) → part_of (hears_entry (home_of g) e f i) ≡ part_of (f i)
+  heard-same part_of same e f i = by (nat_eq (home_of g i) e.kernel) refl
+    where
+      by : (b : Bool) → nat_eq (home_of g i) e.kernel ≡ b → part_of (hears_entry (home_of g) e f i) ≡ part_of (f i)
+      by true here = ap part_of (heard-here (home_of g) e f i here) ∙ same i e (f i)
+      by false away = ap part_of (heard-not (home_of g) e f i away)
+
+  last-same : (e : Placed) (f : Fleet) (i : ℕ) → (hears_entry (home_of g) e f i).replayed.last ≡ (f i).replayed.last
+  last-same = heard-same (λ z. z.replayed.last) (λ i e x. refl)
+
+  since-same : (e : Placed) (f : Fleet) (i : ℕ) → since_of (hears_entry (home_of g) e f) i ≡ since_of f i
+  since-same = heard-same (λ z. z.since) (λ i e x. refl)
+
+  told-so : (e : Placed) (f : Fleet) (i : ℕ) → IsTold (given_of (status_of (f i).replayed.last (hears_by (process i) (f i).replayed.heard (call_of (process i) e.entry.what) e.entry.steps)))
+      → IsTold (given_of (owner_of (f i)).status) → IsTold (given_of (owner_of (hears_entry (home_of g) e f i)).status)
+  told-so e f i here_told away_told = by (nat_eq (home_of g i) e.kernel) refl
+    where
+      by : (b : Bool) → nat_eq (home_of g i) e.kernel ≡ b → IsTold (given_of (owner_of (hears_entry (home_of g) e f i)).status)
+      by true here = subst (λ (z : Acting). IsTold (given_of (owner_of z).status)) (sym (heard-here (home_of g) e f i here)) here_told
+      by false away = subst (λ (z : Acting). IsTold (given_of (owner_of z).status)) (sym (heard-not (home_of g) e f i away)) away_told
+
+  module _ (s : Service) (n : ℕ) (f : Fleet) (past : List Done) (is : IsFollowing version count s n f past) (e : Placed) (part : List (ServiceStep × Service)) (entry : IsEntry g s e part) (range : IsPlacedInRange e) where
+    abbrev t : Service
+    t = state_after s part
+
+    -- a packet is taken
+    taken-uncalled : (w : Happened) → e.entry.what ≡ w → ((p : Pid) → call_of p e.entry.what ≡ None) → AllByRecursion IsUncalled e.entry.steps
+    taken-uncalled (Took from picture) what none = subst (λ (w : Happened). AreOfEntry g e.kernel w e.entry.steps) what entry.own
+    taken-uncalled (Asked p c) what none =
+        let no : Some c ≡ None = sym (ap (λ (w : Happened). call_of p w) what ∙ own-call p c) ∙ none p in absurd cc
+
+    pub takes-follow : ((p : Pid) → call_of p e.entry.what ≡ None) → IsFollowing version count t (suc n) (hears_entry (home_of g) e f) past
+    takes-follow none =
+        let un : AllByRecursion IsUncalled e.entry.steps = taken-uncalled e.entry.what refl none in
+        record {
+          deeds = is.deeds;
+          stands = taking-stands g version count services s n e part entry f is.deeds is.stands is.idle none un;
+          idle = λ i above. last-same e f i ∙ is.idle i above;
+          silent = λ i above. since-same e f i ∙ is.silent i above;
+          told = λ i. told-so e f i (hears-told (process i) (f i).replayed.last (f i).replayed.heard (call_of (process i) e.entry.what) e.entry.steps range.entry.steps (is.told i)) (is.told i);
+          woven =
+              subst (λ (l : ℕ → List DeedOn). AreWoven t l past is.deeds) (same-since (since_of f) (since_of (hears_entry (home_of g) e f)) (λ i. sym (since-same e f i)))
+              (weaves-uncalled moving.moves moving.consistent (since_of f) past is.deeds count (is.silent count (omega arith)) part s is.stands.owners.consistent entry.run
+              (subst (λ (l : List ServiceStep). AllByRecursion IsUncalled l) (sym entry.steps) un) is.woven);
+        }
+
+    -- a process calls
+    module _ (few : n ≤ 2 ^ 28) (p : Pid) (given : Option Answer) (c : Call) (own : e.kernel ≡ home_of g p.0) (is_call : call_of p e.entry.what ≡ Some c) (asking : IsAsking (f p.0) given c) where
+      what-is : e.entry.what ≡ Asked p c
+      what-is = by e.entry.what refl
+        where
+          by : (w : Happened) → e.entry.what ≡ w → e.entry.what ≡ Asked p c
+          by (Took from picture) what = let no : None ≡ Some c = sym (ap (λ (w : Happened). call_of p w) what) ∙ is_call in absurd cc
+          by (Asked q d) what = by_same (nat_eq p.0 q.0) refl (sym (ap (λ (w : Happened). call_of p w) what) ∙ is_call)
+            where
+              same_call : Some d ≡ Some c → d ≡ c
+              same_call e = cc
+
+              by_same : (b : Bool) → nat_eq p.0 q.0 ≡ b → (if b then Some d else None) ≡ Some c → e.entry.what ≡ Asked p c
+              by_same true same one = what ∙ ap (λ (i : ℕ). Asked (record { 0 = i }) d) (sym (eqb-true p.0 q.0 same)) ∙ ap (Asked p) (same_call one)
+              by_same false other one = let no : None ≡ Some c = one in absurd cc
+
+      of-entry : AreOfEntry g e.kernel (Asked p c) e.entry.steps
+      of-entry = subst (λ (w : Happened). AreOfEntry g e.kernel w e.entry.steps) what-is entry.own
+
+      abbrev to : Fleet
+      to = hears_entry (home_of g) e (asked_by p given f)
+
+      abbrev d : Did
+      d = did (f p.0).replayed.state given

@@ -160,6 +160,10 @@ status-is-told : (c : Call) (o : Option Answer) (d : Call) → IsTold o → IsTo
 status-is-told c None d is = tt
 status-is-told c (Some a) d is = is
 
+-- of a call that it makes in the entry
+pub called-told : (q : Pid) (c d : Call) (h : Heard) (steps : List ServiceStep) → All IsStepInRange steps → IsTold (given_of (status_of (Some (next.Ask d)) (hears_by q h (Some c) steps)))
+called-told q c d h steps all = status-is-told c (own_told q c steps) d (own-is-told q c steps all)
+
 -- what an entry tells are bytes where its steps are
 pub hears-told : (q : Pid) (last : Option Next) (h : Heard) (o : Option Call) (steps : List ServiceStep) → All IsStepInRange steps → IsTold (given_of (status_of last h)) → IsTold (given_of (status_of last (hears_by q h o steps)))
 hears-told q None h o steps all is = tt
