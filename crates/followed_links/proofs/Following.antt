@@ -2,7 +2,8 @@
 use Rattle.std.proofs.Common.{arith, ◌≡◌, ◌⊎◌, inl, inr, ⊎_elim, ℕ, zero, suc, ◌+◌, ◌*◌, ◌^◌, ◌≤◌, ◌<◌, nat_eq, Bool, true, false, if◌then◌else◌, List, [], ◌∷◌, ◌++◌, length, All, Option, Some, None, refl, sym, ap, subst, ◌∙◌, eq-eqb, eqb-true, append-nil, append_assoc}
 use Rattle.std.proofs.lemmas.List.Elements.{All-head, All-tail}
 use Rattle.std.specs.List.{AllByRecursion}
-use Rattle.charlotte_calls.specs.Ranges.{IsStepInRange}
+use Rattle.charlotte_calls.specs.Ranges.{IsCallInRange, IsStepInRange}
+use Rattle.charlotte_calls.specs.declared.calls.Cause.{Cause}
 use Rattle.charlotte_calls.specs.declared.calls.Answer.{Answer}
 use Rattle.charlotte_calls.specs.declared.calls.Call.{Call}
 use Rattle.charlotte_calls.specs.declared.calls.Call.TheVariants as call
@@ -115,7 +116,7 @@ pick i j P x f its others = by (nat_eq i j) refl
     by true same = its same
     by false other = others other
 
-module _ (g : Setting) (version count : ℕ) (services : StepsKeep version count) (processes : ProcessesKeep version count) (moving : ServiceMoves) where
+module _ (g : Setting) (version count : ℕ) (counted : length g.homes ≡ count) (services : StepsKeep version count) (processes : ProcessesKeep version count) (moving : ServiceMoves) where
   -- ---- a step without a call
 
   module _ (s : Service) (n : ℕ) (f : Fleet) (past : List Done) (is : IsFollowing version count s n f past) (few : n ≤ 2 ^ 28) (p : Pid) (below : p.0 < count) (given : Option Answer) where
@@ -245,8 +246,121 @@ module _ (g : Setting) (version count : ℕ) (services : StepsKeep version count
       of-entry : AreOfEntry g e.kernel (Asked p c) e.entry.steps
       of-entry = subst (λ (w : Happened). AreOfEntry g e.kernel w e.entry.steps) what-is entry.own
 
-      abbrev to : Fleet
-      to = hears_entry (home_of g) e (asked_by p given f)
+      abbrev later : Fleet
+      later = hears_entry (home_of g) e (asked_by p given f)
 
-      abbrev d : Did
-      d = did (f p.0).replayed.state given
+      abbrev done : Did
+      done = did (f p.0).replayed.state given
+
+      below : p.0 < count
+      below = subst (λ (k : ℕ). p.0 < k) counted of-entry.0
+
+      one-step : IsStepped version count s n (owners f) is.deeds p.0 done
+      one-step = stepped s n f past is few p below given asking.is_given
+
+      abbrev deeds_now : EndId → List Deed
+      deeds_now x = is.deeds x ++ deeds_at x done.deeds
+
+      -- after its step it asks the call
+      abbrev asker : Owner
+      asker = record { state = done.state; status = Asks c }
+
+      asked : Stands version count s n (with_owner p.0 asker (owners f)) deeds_now
+      asked =
+          subst (λ (m : Next). Stands version count s n (with_owner p.0 (record { state = done.state; status = after_step m }) (owners f)) deeds_now) asking.asks one-step.stands
+
+      mine : IsMine s p.0 c
+      mine = one-step.mine c asking.asks
+
+      has-bytes : (b : Call) → IsCallInRange b → HasBytes b
+      has-bytes (call.Send on bytes xs) in_range = in_range.1.each
+      has-bytes call.Make in_range = tt
+      has-bytes (call.Destroy on) in_range = tt
+      has-bytes (call.Receive on) in_range = tt
+      has-bytes (call.Cancel on w) in_range = tt
+      has-bytes call.Wait in_range = tt
+      has-bytes (call.Print bytes) in_range = tt
+      has-bytes call.Exit in_range = tt
+
+      bytes : HasBytes c
+      bytes = has-bytes c (subst IsHappenedInRange what-is range.entry.what).1
+
+      here : nat_eq (home_of g p.0) e.kernel ≡ true
+      here = eq-eqb (home_of g p.0) e.kernel (sym own)
+
+      called-stands : Stands version count t (suc n) (owners later) deeds_now
+      called-stands =
+          calling-stands g version count services s n e part entry f deeds_now p c given asking.asks below is_call (λ i other. none-else p i c e.entry.what is_call other) here is.idle mine bytes asked of-entry.2
+
+      -- ---- its deeds
+
+      abbrev since_after : ℕ → List DeedOn
+      since_after = flushing p.0 (since_of f)
+
+      abbrev past_after : List Done
+      past_after = past ++ done_by p n (deeds_before given (f p.0))
+
+      woven-first : AreWoven s since_after past_after deeds_now
+      woven-first = weaves-call s (since_of f) past is.deeds is.woven p.0 done.deeds one-step.elsewhere n
+
+      quiet : since_after p.0 ≡ []
+      quiet = ap (λ (b : Bool). if b then [] else since_of f p.0) (eq-eqb p.0 p.0 refl)
+
+      -- the first step of the call
+      own-first : (made : ServiceStep) → IsFirst p.0 c made → IsOwnStep s p.0 made
+      own-first made (inl refused) = record {
+        sends = λ x m l xs is_so. absurd (apart-send refused.0 x m l xs (sym refused.1 ∙ is_so));
+        destroys = λ x is_so. absurd (apart-destroy refused.0 x (sym refused.1 ∙ is_so));
+        exits = λ q is_so. absurd (apart-exit refused.0 q (sym refused.1 ∙ is_so));
+      }
+        where
+          apart-send : (cause : Cause) (x : EndId) (m : ℕ) (l : List ℕ) (xs : List EndId) → step.Refuse p c cause ≡ step.Send x m l xs → ⊥
+          apart-send cause x m l xs e = cc
+
+          apart-destroy : (cause : Cause) (x : EndId) → step.Refuse p c cause ≡ step.Destroy x → ⊥
+          apart-destroy cause x e = cc
+
+          apart-exit : (cause : Cause) (q : Pid) → step.Refuse p c cause ≡ step.Exit q → ⊥
+          apart-exit cause q e = cc
+      own-first made (inr step_own) = own-of c mine step_own
+        where
+          same-made : (m : ServiceStep) → made ∷ [] ≡ m ∷ [] → made ≡ m
+          same-made m e = cc
+
+          own-of : (b : Call) → IsMine s p.0 b → IsOwn p b (made ∷ []) → IsOwnStep s p.0 made
+          own-of (call.Send on l xs) at so = record {
+            sends = λ x m k ys is_so. (let same : step.Send on so.0 l xs ≡ step.Send x m k ys = sym (same-made (step.Send on so.0 l xs) so.1) ∙ is_so in let e : on ≡ x = cc in subst (λ (y : EndId). (s.ends y).place ≡ place.Owned p) e at);
+            destroys = λ x is_so. (let no : step.Send on so.0 l xs ≡ step.Destroy x = sym (same-made (step.Send on so.0 l xs) so.1) ∙ is_so in cc);
+            exits = λ q is_so. (let no : step.Send on so.0 l xs ≡ step.Exit q = sym (same-made (step.Send on so.0 l xs) so.1) ∙ is_so in cc);
+          }
+          own-of (call.Destroy on) at so = record {
+            sends = λ x m k ys is_so. (let no : step.Destroy on ≡ step.Send x m k ys = sym (same-made (step.Destroy on) so) ∙ is_so in cc);
+            destroys = λ x is_so. (let same : step.Destroy on ≡ step.Destroy x = sym (same-made (step.Destroy on) so) ∙ is_so in let e : on ≡ x = cc in subst (λ (y : EndId). (s.ends y).place ≡ place.Owned p) e at);
+            exits = λ q is_so. (let no : step.Destroy on ≡ step.Exit q = sym (same-made (step.Destroy on) so) ∙ is_so in cc);
+          }
+          own-of call.Exit at so = record {
+            sends = λ x m k ys is_so. (let no : step.Exit p ≡ step.Send x m k ys = sym (same-made (step.Exit p) so) ∙ is_so in cc);
+            destroys = λ x is_so. (let no : step.Exit p ≡ step.Destroy x = sym (same-made (step.Exit p) so) ∙ is_so in cc);
+            exits = λ q is_so. (let same : step.Exit p ≡ step.Exit q = sym (same-made (step.Exit p) so) ∙ is_so in cc);
+          }
+          own-of call.Make at so = record {
+            sends = λ x m k ys is_so. (let no : step.Make p so.0 so.1 ≡ step.Send x m k ys = sym (same-made (step.Make p so.0 so.1) so.2) ∙ is_so in cc);
+            destroys = λ x is_so. (let no : step.Make p so.0 so.1 ≡ step.Destroy x = sym (same-made (step.Make p so.0 so.1) so.2) ∙ is_so in cc);
+            exits = λ q is_so. (let no : step.Make p so.0 so.1 ≡ step.Exit q = sym (same-made (step.Make p so.0 so.1) so.2) ∙ is_so in cc);
+          }
+          own-of (call.Receive on) at so = record {
+            sends = λ x m k ys is_so. (let no : step.Receive on ≡ step.Send x m k ys = sym (same-made (step.Receive on) so) ∙ is_so in cc);
+            destroys = λ x is_so. (let no : step.Receive on ≡ step.Destroy x = sym (same-made (step.Receive on) so) ∙ is_so in cc);
+            exits = λ q is_so. (let no : step.Receive on ≡ step.Exit q = sym (same-made (step.Receive on) so) ∙ is_so in cc);
+          }
+          own-of (call.Cancel on w) at so = record {
+            sends = λ x m k ys is_so. (let no : step.Cancel on w ≡ step.Send x m k ys = sym (same-made (step.Cancel on w) so) ∙ is_so in cc);
+            destroys = λ x is_so. (let no : step.Cancel on w ≡ step.Destroy x = sym (same-made (step.Cancel on w) so) ∙ is_so in cc);
+            exits = λ q is_so. (let no : step.Cancel on w ≡ step.Exit q = sym (same-made (step.Cancel on w) so) ∙ is_so in cc);
+          }
+          own-of call.Wait at so = record {
+            sends = λ x m k ys is_so. (let no : step.Wait p ≡ step.Send x m k ys = sym (same-made (step.Wait p) so) ∙ is_so in cc);
+            destroys = λ x is_so. (let no : step.Wait p ≡ step.Destroy x = sym (same-made (step.Wait p) so) ∙ is_so in cc);
+            exits = λ q is_so. (let no : step.Wait p ≡ step.Exit q = sym (same-made (step.Wait p) so) ∙ is_so in cc);
+          }
+          own-of (call.Print l) at so = let no : made ∷ [] ≡ [] = so in absurd cc
