@@ -255,8 +255,8 @@ module _ (g : Setting) (version count : ℕ) (counted : length g.homes ≡ count
       below : p.0 < count
       below = subst (λ (k : ℕ). p.0 < k) counted of-entry.0
 
-      one-step : IsStepped version count s n (owners f) is.deeds p.0 done
-      one-step = stepped s n f past is few p below given asking.is_given
+      call-step : IsStepped version count s n (owners f) is.deeds p.0 done
+      call-step = stepped s n f past is few p below given asking.is_given
 
       abbrev deeds_now : EndId → List Deed
       deeds_now x = is.deeds x ++ deeds_at x done.deeds
@@ -267,10 +267,10 @@ module _ (g : Setting) (version count : ℕ) (counted : length g.homes ≡ count
 
       asked : Stands version count s n (with_owner p.0 asker (owners f)) deeds_now
       asked =
-          subst (λ (m : Next). Stands version count s n (with_owner p.0 (record { state = done.state; status = after_step m }) (owners f)) deeds_now) asking.asks one-step.stands
+          subst (λ (m : Next). Stands version count s n (with_owner p.0 (record { state = done.state; status = after_step m }) (owners f)) deeds_now) asking.asks call-step.stands
 
       mine : IsMine s p.0 c
-      mine = one-step.mine c asking.asks
+      mine = call-step.mine c asking.asks
 
       has-bytes : (b : Call) → IsCallInRange b → HasBytes b
       has-bytes (call.Send on bytes xs) in_range = in_range.1.each
@@ -301,7 +301,7 @@ module _ (g : Setting) (version count : ℕ) (counted : length g.homes ≡ count
       past_after = past ++ done_by p n (deeds_before given (f p.0))
 
       woven-first : AreWoven s since_after past_after deeds_now
-      woven-first = weaves-call s (since_of f) past is.deeds is.woven p.0 done.deeds one-step.elsewhere n
+      woven-first = weaves-call s (since_of f) past is.deeds is.woven p.0 done.deeds call-step.elsewhere n
 
       quiet : since_after p.0 ≡ []
       quiet = ap (λ (b : Bool). if b then [] else since_of f p.0) (eq-eqb p.0 p.0 refl)
