@@ -1,5 +1,5 @@
 -- What an answer or a report makes of the ends of a process: one change at the end that it is about, and then what comes of that; and a whole step.
-use Rattle.std.specs.Prelude.{◌≡◌, ◌⊎◌, Bool, ℕ, List, [], ◌++◌, Option, Some, Ok, Err, ⊤}
+use Rattle.std.specs.Prelude.{◌≡◌, ◌⊎◌, Bool, ℕ, List, [], ◌∷◌, ◌++◌, Option, Some, Ok, Err, ⊤}
 use Rattle.std.specs.Prelude as prelude
 use Rattle.charlotte_calls.specs.declared.calls.Answer.{Answer}
 use Rattle.charlotte_calls.specs.declared.calls.Answer.TheVariants as answer
