@@ -1,18 +1,17 @@
 -- The changes of a process, and what it is told, seen at one of its ends.
-use Rattle.std.proofs.Common.{arith, ◌≡◌, ◌≤◌, ◌<◌, ℕ, suc, ◌+◌, Bool, true, false, if◌then◌else◌, cond, ⊎_elim, List, [], ◌∷◌, ◌++◌, length, map, filter, Option, Some, None, refl, sym, ap, subst, ◌∙◌}
+use Rattle.std.proofs.Common.{arith, ◌≡◌, ◌≤◌, ◌<◌, ℕ, ◌+◌, Bool, true, false, if◌then◌else◌, cond, List, [], ◌∷◌, ◌++◌, length, map, filter, Option, Some, None, refl, sym, ap, subst, ◌∙◌}
 use Rattle.std.proofs.lemmas.List.{map-append}
 use Rattle.std.proofs.lemmas.List.Elements.{filter-append}
 use Rattle.charlotte_calls.specs.EndEq.{end_eq}
 use Rattle.charlotte_calls.specs.declared.names.EndId.{EndId}
 use Rattle.end_protocol.specs.declared.kept.Kept.{Kept}
 use Rattle.end_protocol.specs.Deeds.{Deed}
-use Rattle.end_protocol.specs.Going.{returns, settled}
+use Rattle.end_protocol.specs.Going.{returns}
 use Rattle.end_protocol.specs.Happenings.{Happening, after, deeds_of}
 use Rattle.end_protocol.specs.Kept.{fresh}
 use Rattle.end_protocol.specs.Wanting.{is_busy}
 use Rattle.process_run.specs.States.{DeedOn, Gone, Holding, Keeps, Place, deeds_on}
 use Rattle.process_run.specs.Ends.{gets_one, number_of, place_at, with_holding}
-use Rattle.process_run.specs.Reports.{holding_of}
 use Rattle.process_run.specs.Runs.{settled_at, settled_in}
 use Rattle.process_ends.proofs.Numbering.{got_as}
 use Rattle.process_changes.specs.Changes.{Change, Changes, IsHeld, IsWhole, MayDo, taken_along}
@@ -43,7 +42,7 @@ deeds_both y ds es =
     ∙ map-append (λ (d : DeedOn). d.deed) (filter (λ (d : DeedOn). end_eq d.on y) ds) (filter (λ (d : DeedOn). end_eq d.on y) es)
 
 -- what is so at this end, with these deeds, and at each other end with none, is so at each end
-by_end : (C : EndId → List Deed → Type 0) (x : EndId) (ds : List Deed) → C x ds → ((y : EndId) → end_eq x y ≡ false → C y []) → (y : EndId) → C y (deeds_at y (deeds_on x ds))
+pub by_end : (C : EndId → List Deed → Type 0) (x : EndId) (ds : List Deed) → C x ds → ((y : EndId) → end_eq x y ≡ false → C y []) → (y : EndId) → C y (deeds_at y (deeds_on x ds))
 by_end C x ds here others y = by_same (end_eq x y) refl
   where
     by_same : (b : Bool) → end_eq x y ≡ b → C y (deeds_at y (deeds_on x ds))
@@ -53,16 +52,16 @@ by_end C x ds here others y = by_same (end_eq x y) refl
 -- ---- counting
 
 -- this end once, if it is that one
-abbrev once : EndId → EndId → ℕ
+abbrev pub once : EndId → EndId → ℕ
 once x y = if end_eq x y then 1 else 0
 
-once_self : (x : EndId) → once x x ≡ 1
+pub once_self : (x : EndId) → once x x ≡ 1
 once_self x = ap (λ (b : Bool). if b then 1 else 0) (end_eq_self x)
 
-once_other : (x y : EndId) → end_eq x y ≡ false → once x y ≡ 0
+pub once_other : (x y : EndId) → end_eq x y ≡ false → once x y ≡ 0
 once_other x y apart = ap (λ (b : Bool). if b then 1 else 0) apart
 
-doomed_too : (x y : EndId) (l : List EndId) → how_often y (l ++ x ∷ []) ≡ how_often y l + once x y
+pub doomed_too : (x y : EndId) (l : List EndId) → how_often y (l ++ x ∷ []) ≡ how_often y l + once x y
 doomed_too x y l = let all : how_often y (l ++ x ∷ []) ≡ how_often y l + (once x y + 0) = both y l (x ∷ []) in omega (arith, all)
 
 -- no change puts an end into more places

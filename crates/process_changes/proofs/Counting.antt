@@ -1,9 +1,9 @@
 -- How often an end is among those that a process carries, before and after what happens at an end.
-use Rattle.std.proofs.Common.{arith, ◌≡◌, ◌≤◌, ℕ, zero, suc, ◌+◌, ◌==◌, Bool, true, false, ◌&&◌, List, [], ◌∷◌, ◌++◌, map, drop, take, filter, Option, Some, None, slice_get, slice_set, if◌then◌else◌, refl, sym, ap, subst, ◌∙◌}
+use Rattle.std.proofs.Common.{arith, ◌≡◌, ◌≤◌, ℕ, zero, suc, ◌+◌, ◌==◌, Bool, true, false, List, [], ◌∷◌, ◌++◌, map, drop, take, Option, Some, None, slice_get, slice_set, if◌then◌else◌, refl, sym, ap, ◌∙◌}
 use Rattle.std.proofs.lemmas.Grind.{flat_map-append}
 use Rattle.std.proofs.lemmas.List.{take-append-drop}
-use Rattle.std.specs.Prelude.{is_some, not, length}
-use Rattle.std.specs.List.{flat_map, list_any}
+use Rattle.std.specs.Prelude.{is_some, not}
+use Rattle.std.specs.List.{flat_map}
 use Rattle.charlotte_calls.specs.EndEq.{end_eq}
 use Rattle.charlotte_calls.specs.declared.names.EndId.{EndId}
 use Rattle.lynx_packets.specs.declared.packet.RtPacket.{RtPacket}
@@ -19,7 +19,7 @@ use Rattle.end_protocol.specs.declared.kept.Taker.{Taker}
 use Rattle.end_protocol.specs.declared.kept.Wanted.{Wanted}
 use Rattle.end_protocol.specs.declared.messages.Connect.{Connect}
 use Rattle.end_protocol.specs.declared.messages.Message.{Message}
-use Rattle.end_protocol.specs.Asking.{asked, binds, connected, is_bound, is_owed, later, lined_up, replied, replies}
+use Rattle.end_protocol.specs.Asking.{asked, binds, is_bound, is_owed, later, lined_up, replied, replies}
 use Rattle.end_protocol.specs.Falling.{dies, fallen, is_own, outstanding_ends, own_ends, reply_ends, request_ends}
 use Rattle.end_protocol.specs.Going.{allows, is_allow_due, sent, settled, settled_with}
 use Rattle.end_protocol.specs.Happenings.{Accepts, Binds, CancelLate, Connects, Happening, ReceiveOver, Receives, Replies, SendOver, Unbinds, after}
@@ -441,7 +441,7 @@ module _ (x : EndId) where
   abbrev pub of_holding : Holding → ℕ
   of_holding g = how_often x (carried_in g)
 
-  first_of : (p : Place) (ps : List Place) → in_places (p ∷ ps) ≡ of_holding p.holding + in_places ps
+  pub first_of : (p : Place) (ps : List Place) → in_places (p ∷ ps) ≡ of_holding p.holding + in_places ps
   first_of p ps = both (carried_in p.holding) (carried_at ps)
 
   set_load : (i : ℕ) (p q : Place) (ps : List Place) → slice_get ps i ≡ Some p → in_places (slice_set ps i q) + of_holding p.holding ≡ in_places ps + of_holding q.holding

@@ -1,7 +1,6 @@
 -- What a process has of each of its ends after one of its places changes, after allows that are due, and after it got one end more.
-use Rattle.std.proofs.Common.{arith, ◌≡◌, ⊎_elim, ℕ, zero, suc, ◌+◌, ◌<◌, ◌≤◌, Bool, true, false, if◌then◌else◌, List, [], ◌∷◌, ◌++◌, length, map, take, Option, Some, None, slice_get, eq-eqb, eqb-true, refl, sym, ap, subst, ◌∙◌}
+use Rattle.std.proofs.Common.{arith, ◌≡◌, ⊎_elim, ℕ, zero, suc, ◌+◌, ◌<◌, Bool, true, false, if◌then◌else◌, List, [], ◌∷◌, ◌++◌, length, map, take, Option, Some, None, slice_get, eq-eqb, eqb-true, refl, sym, ap, ◌∙◌}
 use Rattle.std.specs.Prelude.{◌==◌, ◌-◌, min, option_map}
-use Rattle.std.proofs.Math.Nat.{le-min, min-le_left}
 use Rattle.std.proofs.lemmas.List.{length-append, length-map, length-take}
 use Rattle.std.proofs.lemmas.Option.{slice_get-map}
 use Rattle.charlotte_calls.specs.EndEq.{end_eq}
@@ -57,7 +56,7 @@ number_with x n g ps = same_number x 1 (with_holding n g ps) ps (ends_with n g p
 
 -- ---- one place changes
 
-kept_at : (n : ℕ) (p : Place) (g : Holding) (ps : List Place) → place_at n ps ≡ Some p → place_at n (with_holding n g ps) ≡ Some (record p { holding = g })
+pub kept_at : (n : ℕ) (p : Place) (g : Holding) (ps : List Place) → place_at n ps ≡ Some p → place_at n (with_holding n g ps) ≡ Some (record p { holding = g })
 kept_at zero p g ps at = absurd (none_at p at)
 kept_at (suc i) p g ps at = ap (λ (o : Option Place). slice_get (set_holding i g o ps) i) at ∙ kept_index i p g ps at
 

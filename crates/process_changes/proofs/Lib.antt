@@ -2,3 +2,4 @@ pub mod Numbers
 pub mod Counting
 pub mod Held
 pub mod AtEnd
+pub mod ToldAt
