@@ -106,7 +106,7 @@ module _ (x : EndId) where
       let was : load k ≡ sum k = load_is k in
       let now : load (asked version c k) ≡ in_queue (k.queue ++ request_of version c ∷ []) + (how_often x (drop (most_of version) c.ends) + (in_line k.behind + (of_request k.request + of_reply k.reply))) = load_is (asked version c k) in
       let queue : in_queue (k.queue ++ request_of version c ∷ []) ≡ in_queue k.queue + how_often x (take (most_of version) c.ends) =
-          joins k.queue (request_of version c ∷ []) ∙ ap (λ (n : ℕ). in_queue k.queue + n) (alone (request_of version c).packet (take (most_of version) c.ends)) in
+      joins k.queue (request_of version c ∷ []) ∙ ap (λ (n : ℕ). in_queue k.queue + n) (alone (request_of version c).packet (take (most_of version) c.ends)) in
       let halves : how_often x (take (most_of version) c.ends) + how_often x (drop (most_of version) c.ends) ≡ how_often x c.ends = split (most_of version) c.ends in
       omega (arith, was, now, queue, halves)
 

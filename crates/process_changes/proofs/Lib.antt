@@ -3,3 +3,4 @@ pub mod Counting
 pub mod Held
 pub mod AtEnd
 pub mod ToldAt
+pub mod Away

@@ -61,7 +61,7 @@ module _ (t : Turn) where
   held_as n (Keeps k) = refl
   held_as n (Gone own) = refl
 
-  held_known : (y : EndId) (ps : List Place) → held_count (holding_at y (known_from t 1 ps)) ≡ held_count (holding_at y ps)
+  pub held_known : (y : EndId) (ps : List Place) → held_count (holding_at y (known_from t 1 ps)) ≡ held_count (holding_at y ps)
   held_known y ps = ap held_count (holding_known y ps) ∙ held_as (number_of y ps) (holding_at y ps)
 
   known_load : (y : EndId) (i : ℕ) (ps : List Place) → in_places y (known_from t i ps) ≤ in_places y ps
@@ -186,7 +186,6 @@ module _ (version : ℕ) (t : Turn) (b : Ledger) (single : AreSingle b.places) w
 
   reported_about : (r : Report) (y : EndId) → IsReport t r y → about t.asked t.given ≡ number_of y ps
   reported_about r y is = is_about process.Wait (answer.Reported r) is.0 ∙ ap (λ (z : EndId). number_of z ps) is.1
-
 
   -- with this told, an end is in no more places where none of what was told puts it into more
   told_held : (y : EndId) (n : ℕ) (f : Holding) (ds : List Deed) (g : Holding) → ToldAt version t y n f ds g → held_count g ≤ held_count f
@@ -371,7 +370,6 @@ module _ (version : ℕ) (t : Turn) (b : Ledger) (single : AreSingle b.places) w
   death_with_about n x h same death =
       ⊎_elim (λ (d : IsTold t (process.Cancel n) (answer.Refused Dead) × (h ≡ CancelLate)). is_about (process.Cancel n) (answer.Refused Dead) d.0)
       (λ (d : Kills t x h). reported_about d.report x d.told ∙ same) death
-
 
   -- ---- all that is told
 

@@ -20,6 +20,6 @@ mod law;
 
 pub use law::{
     changes_are_events, changes_are_seen_at_ends, events_go_in_order, events_keep_ends,
-    followed_runs_are_in_order, steps_change_ends, tellings_are_events,
-    tellings_are_seen_at_ends, ways_are_lists, ways_go_on,
+    followed_runs_are_in_order, steps_change_ends, tellings_are_events, tellings_are_seen_at_ends,
+    ways_are_lists, ways_go_on,
 };
