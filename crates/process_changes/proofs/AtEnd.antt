@@ -320,3 +320,6 @@ changes_less version a ds b (Then f as' m bs g one others) =
     let first : total m ≤ total a = change_less version a as' m one in
     let rest : total b ≤ total m = changes_less version m bs b others in
     omega (arith, first, rest)
+
+pub less_after : (version : ℕ) (y : EndId) (b : Ledger) (ds : List DeedOn) (c : Ledger) → Changes version b ds c → AreSingle b.places → ((z : EndId) → total (seen z b) ≤ 1) → length c.places < 4294967295 → total (seen y c) ≤ total (seen y b)
+less_after version y b ds c changes single few room = changes_less version (seen y b) (deeds_at y ds) (seen y c) (changes_at version y b ds c changes single few room).changes

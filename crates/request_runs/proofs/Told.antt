@@ -47,7 +47,7 @@ same_ok : (p q : RtPacket) → ◌≡◌ {A = Result RtPacket ℕ} (Ok p) (Ok q)
 same_ok p q e = cc
 
 -- a Send that is answered leaves the receive as it is
-sent_receiving : (k : Kept) (b : Bool) → (if b then sent k else k).receiving ≡ k.receiving
+pub sent_receiving : (k : Kept) (b : Bool) → (if b then sent k else k).receiving ≡ k.receiving
 unfolding sent
 sent_receiving k true = refl
 sent_receiving k false = refl

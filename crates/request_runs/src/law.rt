@@ -76,8 +76,8 @@ pub fn tellings_are_events()
         → Becomes version p (deeds_at x ds) (seen x c) (left_at version t x b ds c is p.near.coming) }
 {}
 
-/// What a step of a process changes after what it was told, seen at one end: one change after the other, with the deeds on that end, in order; and no change
-/// puts an end into more places. Each end is in one place at most before, and a process has room for one end more.
+/// What a step of a process changes after what it was told, seen at one end: one change after the other, with the deeds on that end, in order. Each end
+/// is in one place at most before, and there are numbers for all ends that the process got.
 pub fn changes_are_seen_at_ends()
     ensures { (version : ℕ) (x : EndId) (b : Ledger) (ds : List DeedOn) (c : Ledger) → Changes version b ds c → AreSingle b.places
         → ((y : EndId) → total (seen y b) ≤ 1) → length c.places < 4294967295 → AreAt version x b ds c }
