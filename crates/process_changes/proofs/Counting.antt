@@ -36,6 +36,9 @@ use Rattle.process_changes.specs.Changes.{MayDo, taken_along}
 use Rattle.process_changes.specs.Ledgers.{came_with, carried, carried_at, carried_in, given_back, how_often}
 use Rattle.process_changes.proofs.Numbers.{none_at, same_place}
 
+none_more : (n : ℕ) → n + 0 ≡ n
+none_more n = omega arith
+
 module _ (x : EndId) where
   -- ---- lists
 
@@ -95,10 +98,7 @@ module _ (x : EndId) where
   -- ---- connects and replies
 
   alone : (p : RtPacket) (ys : List EndId) → in_queue (record { packet = p; ends = ys } ∷ []) ≡ how_often x ys
-  alone p ys = both ys [] ∙ zero_behind (how_often x ys)
-    where
-      zero_behind : (n : ℕ) → n + 0 ≡ n
-      zero_behind n = omega arith
+  alone p ys = both ys [] ∙ none_more (how_often x ys)
 
   asked_load : (version : ℕ) (c : Connect) (k : Kept) → load (asked version c k) + of_connect k.outstanding ≡ load k + how_often x c.ends
   unfolding asked
@@ -479,7 +479,4 @@ module _ (x : EndId) where
 
   -- one place more
   pub got_load : (y : EndId) (ps : List Place) → in_places (ps ++ record { end = y; holding = Keeps fresh } ∷ []) ≡ in_places ps
-  got_load y ps = all_of (λ (p : Place). carried_in p.holding) ps (record { end = y; holding = Keeps fresh } ∷ []) ∙ nothing (in_places ps)
-    where
-      nothing : (n : ℕ) → n + 0 ≡ n
-      nothing n = omega arith
+  got_load y ps = all_of (λ (p : Place). carried_in p.holding) ps (record { end = y; holding = Keeps fresh } ∷ []) ∙ none_more (in_places ps)

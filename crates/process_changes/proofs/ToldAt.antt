@@ -117,7 +117,7 @@ module _ (t : Turn) where
       (known_one (i + 1) j p ps at (λ l other. ap (λ (m : ℕ). is_sent_at m) (shift i l) ∙ un (suc l) (λ e. other (omega (arith, e)))))
       ∙ ap (λ (m : ℕ). q ∷ set_holding j (known_holding t m p.holding) (Some p) ps) (shift i j)
 
-  sent_when : (n m : ℕ) → IsTold t (process.Send n) answer.Ok → is_sent_at m ≡ (n == m)
+  pub sent_when : (n m : ℕ) → IsTold t (process.Send n) answer.Ok → is_sent_at m ≡ (n == m)
   sent_when n m is = ap (λ (a : Asked). is_sent a t.given m) is.0 ∙ ap (λ (g : Option Answer). is_sent (process.Send n) g m) is.1
 
   -- where one on an end that is held is answered Ok
@@ -140,16 +140,16 @@ module _ (t : Turn) where
   asked_other : (asked : Asked) → t.asked ≡ asked → ((n : ℕ) → is_sent asked t.given n ≡ false) → (n : ℕ) → is_sent_at n ≡ false
   asked_other asked e un n = ap (λ (a : Asked). is_sent a t.given n) e ∙ un n
 
-  waited : t.asked ≡ process.Wait → (n : ℕ) → is_sent_at n ≡ false
+  pub waited : t.asked ≡ process.Wait → (n : ℕ) → is_sent_at n ≡ false
   waited e = asked_other process.Wait e (λ n. refl)
 
-  received : (m : ℕ) → t.asked ≡ process.Receive m → (n : ℕ) → is_sent_at n ≡ false
+  pub received : (m : ℕ) → t.asked ≡ process.Receive m → (n : ℕ) → is_sent_at n ≡ false
   received m e = asked_other (process.Receive m) e (λ n. refl)
 
-  cancelled : (m : ℕ) → t.asked ≡ process.Cancel m → (n : ℕ) → is_sent_at n ≡ false
+  pub cancelled : (m : ℕ) → t.asked ≡ process.Cancel m → (n : ℕ) → is_sent_at n ≡ false
   cancelled m e = asked_other (process.Cancel m) e (λ n. refl)
 
-  died : (m : ℕ) → IsDeath t m → (n : ℕ) → is_sent_at n ≡ false
+  pub died : (m : ℕ) → IsDeath t m → (n : ℕ) → is_sent_at n ≡ false
   died m death n =
       ⊎_elim
       (λ (d : IsTold t (process.Send m) (answer.Refused Dead)). ap (λ (a : Asked). is_sent a t.given n) d.0 ∙ ap (λ (g : Option Answer). is_sent (process.Send m) g n) d.1)

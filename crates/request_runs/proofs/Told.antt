@@ -24,10 +24,10 @@ use Rattle.end_protocol.specs.Wanting.{is_deaf}
 use Rattle.process_run.specs.States.{Asked, DeedOn, Gone, Holding, Keeps}
 use Rattle.process_run.specs.Ends.{number_of}
 use Rattle.process_run.specs.States as process
-use Rattle.process_changes.specs.Telling.{Brings, IsAnswer, IsDeath, IsDeathWith, IsReadable, IsTold, Kills, Turn}
+use Rattle.process_changes.specs.Telling.{Brings, IsAnswer, IsDeathWith, IsReadable, IsTold, Kills, Turn}
 use Rattle.process_changes.specs.Ledgers.{Ledger}
 use Rattle.process_changes.specs.AtEnd.{IsToldAt, IsUntoldOf, Seen, ToldAt, deeds_at, held_count, holding_at, is_sent, known, known_from, known_holding, known_ledger, seen, total}
-use Rattle.process_changes.proofs.ToldAt.{held_known, holding_known}
+use Rattle.process_changes.proofs.ToldAt.{cancelled, died, held_known, holding_known, received, sent_when, waited}
 use Rattle.process_changes.specs.AtEnd as told
 use Rattle.request_runs.specs.Changing.{Becomes, IsHearing, IsReceiving, IsStandingOf, StandsWith}
 use Rattle.request_runs.specs.Sides.{Destroyed, Dies, Does, Goes, Hears, Held, Loses, Lost, Pair, Passes, Rests, Side, comes, did, hearing, stands}
@@ -60,20 +60,6 @@ module _ (version : ℕ) (t : Turn) (x : EndId) (n : ℕ) (p : Pair) (out doomed
   -- wherever events lead, over a dead link nothing is coming to it
   abbrev HearsThen : Kept → List Message → Type 0
   HearsThen l ms = (to : Pair) → to.far ≡ p.far → to.near.coming ≡ ms → IsHearing (so (Keeps l)) to
-
-  -- ---- whether a Send was answered Ok
-
-  by_asked : (asked : Asked) → t.asked ≡ asked → is_sent asked t.given n ≡ false → is_sent t.asked t.given n ≡ false
-  by_asked asked e un = ap (λ (a : Asked). is_sent a t.given n) e ∙ un
-
-  unsent_death : IsDeath t n → is_sent t.asked t.given n ≡ false
-  unsent_death death =
-      ⊎_elim
-      (λ (d : IsTold t (process.Send n) (answer.Refused Dead)). ap (λ (a : Asked). is_sent a t.given n) d.0 ∙ ap (λ (g : Option Answer). is_sent (process.Send n) g n) d.1)
-      (λ (d : IsTold t (process.Receive n) (answer.Refused Dead)). by_asked (process.Receive n) d.0 refl) death
-
-  is_known : IsTold t (process.Send n) answer.Ok → is_sent t.asked t.given n ≡ true
-  is_known is = ap (λ (a : Asked). is_sent a t.given n) is.0 ∙ ap (λ (g : Option Answer). is_sent (process.Send n) g n) is.1 ∙ eq-eqb n n refl
 
   module _ (k : Kept) (standing : p.near.standing ≡ Held (known t n k)) where
     held : is_sent t.asked t.given n ≡ false → p.near.standing ≡ Held k
@@ -111,11 +97,11 @@ module _ (version : ℕ) (t : Turn) (x : EndId) (n : ℕ) (p : Pair) (out doomed
         }
 
     by_answer : (h : Happening) → IsAnswer t n x h → HearsThen (after version h k) p.near.coming → Becomes version p [] (so (Keeps (after version h k))) p.near.coming
-    by_answer happenings.Sends is hears = knows (is_known is) hears
-    by_answer SendOver is hears = answers SendOver (by_asked process.Wait is.told.0.0 refl) tt refl hears
-    by_answer Receives is hears = answers Receives (by_asked (process.Receive n) is.0 refl) tt refl hears
-    by_answer ReceiveOver is hears = answers ReceiveOver (by_asked (process.Cancel n) is.0 refl) tt refl hears
-    by_answer CancelLate is hears = answers CancelLate (by_asked (process.Cancel n) is.0 refl) tt refl hears
+    by_answer happenings.Sends is hears = knows (sent_when t n n is ∙ eq-eqb n n refl) hears
+    by_answer SendOver is hears = answers SendOver (waited t is.told.0.0 n) tt refl hears
+    by_answer Receives is hears = answers Receives (received t n is.0 n) tt refl hears
+    by_answer ReceiveOver is hears = answers ReceiveOver (cancelled t n is.0 n) tt refl hears
+    by_answer CancelLate is hears = answers CancelLate (cancelled t n is.0 n) tt refl hears
     by_answer (happenings.Connects c) is hears = absurd is
     by_answer (happenings.Accepts a) is hears = absurd is
     by_answer (happenings.Binds b) is hears = absurd is
@@ -129,7 +115,7 @@ module _ (version : ℕ) (t : Turn) (x : EndId) (n : ℕ) (p : Pair) (out doomed
 
     module _ (bytes : List ℕ) (xs : List EndId) (brings : Brings t x bytes xs) (is_first : IsFirst version bytes xs p.near.coming) where
       unsent : is_sent t.asked t.given n ≡ false
-      unsent = by_asked process.Wait brings.told.0.0 refl
+      unsent = waited t brings.told.0.0 n
 
       heard_so : (room : Bool) (packet : RtPacket) → packet_of version bytes ≡ Ok packet → IsReadable (hears version room packet xs (receive_over k)).1 → HearsThen (hears version room packet xs (receive_over k)).0 (tail p.near.coming) →
           Becomes version p (heard_deeds (hears version room packet xs (receive_over k)).1) (so (Keeps (hears version room packet xs (receive_over k)).0)) (tail p.near.coming)
@@ -213,11 +199,11 @@ module _ (version : ℕ) (t : Turn) (x : EndId) (n : ℕ) (p : Pair) (out doomed
     dies_with h death gone =
         ⊎_elim
         (λ (d : IsTold t (process.Cancel n) (answer.Refused Dead) × (h ≡ CancelLate)).
-        as_is CancelLate d.1 (dies_after CancelLate (by_asked (process.Cancel n) d.0.0 refl) tt refl gone))
+        as_is CancelLate d.1 (dies_after CancelLate (cancelled t n d.0.0 n) tt refl gone))
         (λ (d : Kills t x h).
         ⊎_elim
-        (λ (r : (d.report.way ≡ Inward) × (h ≡ ReceiveOver)). as_is ReceiveOver r.1 (dies_after ReceiveOver (by_asked process.Wait d.told.0.0 refl) tt refl gone))
-        (λ (r : (d.report.way ≡ Outward) × (h ≡ SendOver)). as_is SendOver r.1 (dies_after SendOver (by_asked process.Wait d.told.0.0 refl) tt refl gone))
+        (λ (r : (d.report.way ≡ Inward) × (h ≡ ReceiveOver)). as_is ReceiveOver r.1 (dies_after ReceiveOver (waited t d.told.0.0 n) tt refl gone))
+        (λ (r : (d.report.way ≡ Outward) × (h ≡ SendOver)). as_is SendOver r.1 (dies_after SendOver (waited t d.told.0.0 n) tt refl gone))
         d.over)
         death
       where
@@ -293,7 +279,7 @@ module _ (version : ℕ) (t : Turn) (x : EndId) (n : ℕ) (p : Pair) (out doomed
         heard_so k standing bytes xs brings true_told room packet spelled readable (hears_then k (hears version room packet xs (receive_over k)).0 (tail p.near.coming) (λ e. ap (λ (ms : List Message). tail ms) e) standing hearing spent)
     told_so g ds h (told.Ignores k bytes over xs brings e) few standing hearing true_told spent = absurd (ok_not_err version over bytes true_told.message.packet true_told.packet e)
     told_so g ds h (told.Breaks k own bytes xs brings) few standing hearing true_told spent = broken k standing bytes xs brings true_told own (omega (arith, few, fewer))
-    told_so g ds h (told.Dies k death) few standing hearing true_told spent = dies_now k standing (unsent_death death) true_told (hears_then k (dies k) p.near.coming (λ e. e) standing hearing spent)
+    told_so g ds h (told.Dies k death) few standing hearing true_told spent = dies_now k standing (died t n death n) true_told (hears_then k (dies k) p.near.coming (λ e. e) standing hearing spent)
     told_so g ds h (told.DiesWith k what death) few standing hearing true_told spent = dies_with k standing what death true_told (hears_then k (dies (after version what k)) p.near.coming (λ e. e) standing hearing spent)
 
 pub told_becomes : (version : ℕ) (t : Turn) (x : EndId) (b : Ledger) (ds : List DeedOn) (c : Ledger) (p : Pair) → (is : IsToldAt version t x b ds c) → total (seen x (known_ledger t b)) ≤ 1 →
