@@ -1,8 +1,6 @@
-pub mod Places
-pub mod Due
-pub mod Acting
-pub mod Slices
-pub mod Telling
+pub mod Numbers
+pub mod Counting
+pub mod Held
 pub mod AtEnd
-pub mod Getting
-pub mod Steps
+pub mod ToldAt
+pub mod Away

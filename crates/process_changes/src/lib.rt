@@ -8,5 +8,7 @@
 //! `step_changes` in `proofs/Steps.antt`, for processes that are sound. Nobody connects on a dead end, and each request and reply has an end for each link among
 //! its values, eight at most. An end that goes has no request in part, unless it is dead (`rest_whole` in `proofs/Due.antt`).
 //!
-//! Seen at one end (`ToldAt` and `ChangeAt` in `specs/AtEnd.antt`): `told_at` and `changes_at` in `proofs/AtEnd.antt`, `after_at` in `proofs/Getting.antt`.
+//! Seen at one end (`ToldAt` and `ChangeAt` in `specs/AtEnd.antt`): `told_at` in `proofs/ToldAt.antt`, `changes_at` in `proofs/AtEnd.antt`. No change, and nothing
+//! that is told, puts an end into more places (`less_after`, by `total`; counted in `proofs/Counting.antt`), so an end that is in one place at most stays so. At an
+//! end that is neither held nor in hand nothing is done (`all_away` and `told_away` in `proofs/Away.antt`).
 #![tactic(auto)]

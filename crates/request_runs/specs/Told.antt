@@ -1,34 +1,19 @@
 -- What a process is told of one of its ends, as events at the link of that end.
-use Rattle.std.specs.Prelude.{◌≡◌, ◌⊎◌, ℕ, ◌==◌, Bool, false, if◌then◌else◌, List, ◌∷◌, Option, Some, Ok, ⊤}
-use Rattle.charlotte_calls.specs.declared.calls.Answer.{Answer}
-use Rattle.charlotte_calls.specs.declared.calls.Answer.TheVariants as answer
+use Rattle.std.specs.Prelude.{◌≡◌, ℕ, true, List, [], ◌∷◌, Ok, ⊤}
 use Rattle.charlotte_calls.specs.declared.names.EndId.{EndId}
 use Rattle.lynx_packets.specs.Packets.{packet_of}
-use Rattle.end_protocol.specs.declared.kept.Kept.{Kept}
 use Rattle.end_protocol.specs.declared.messages.Message.{Message}
 use Rattle.end_protocol.specs.Deeds.{Deed}
-use Rattle.end_protocol.specs.Going.{sent}
 use Rattle.end_protocol.specs.Lists.{tail}
-use Rattle.process_run.specs.States.{Asked, Gone, Holding, Keeps}
-use Rattle.process_run.specs.States as process
+use Rattle.end_protocol.specs.Wanting.{is_deaf}
+use Rattle.process_run.specs.States.{DeedOn, Gone, Holding, Keeps}
+use Rattle.process_run.specs.Ends.{number_of}
+use Rattle.process_changes.specs.Ledgers.{Ledger}
 use Rattle.process_changes.specs.Telling.{Turn}
-use Rattle.process_changes.specs.AtEnd.{ToldAt}
+use Rattle.process_changes.specs.AtEnd.{IsToldAt, ToldAt, deeds_at, seen}
 use Rattle.process_changes.specs.AtEnd as told
-use Rattle.request_runs.specs.Sides.{Destroyed, Free, Held, Lost, Pair, Standing}
-
--- a Send was asked on the end of this number, and is answered Ok
-abbrev pub is_sent : Asked → Option Answer → ℕ → Bool
-is_sent (process.Send m) (Some answer.Ok) n = m == n
-is_sent asked given n = false
-
--- What is kept for the end, where that counts already: the service has the message, and its process makes the next step with that answer
-abbrev pub known : Turn → ℕ → Kept → Kept
-known t n k = if is_sent t.asked t.given n then sent k else k
-
--- how an end stands of which its owner has this, before it makes a step with an answer
-abbrev pub IsStandingNow : Turn → ℕ → Holding → Standing → Type 0
-IsStandingNow t n (Keeps k) s = s ≡ Held (known t n k)
-IsStandingNow t n (Gone own) s = (s ≡ Free) ⊎ (s ≡ Lost)
+use Rattle.request_runs.specs.Changing.{IsReceiving}
+use Rattle.request_runs.specs.Sides.{Destroyed, Pair}
 
 -- ---- what is told is true
 
@@ -57,3 +42,21 @@ abbrev pub left : (version : ℕ) (t : Turn) (x : EndId) (n : ℕ) (g : Holding)
 left version t x n g ds h (told.Hears k room bytes packet xs brings spelled readable) ms = tail ms
 left version t x n g ds h (told.Breaks k own bytes xs brings) ms = tail ms
 left version t x n g ds h _ ms = ms
+
+-- the same of all that is told of an end
+abbrev pub IsTrueAt : (version : ℕ) (t : Turn) (x : EndId) (b : Ledger) (ds : List DeedOn) (c : Ledger) → Pair → IsToldAt version t x b ds c → Type 0
+IsTrueAt version t x b ds c p is =
+    IsTrue version t x (number_of x b.places) p (seen x b).holding (deeds_at x ds) (seen x c).holding is.told
+
+abbrev pub left_at : (version : ℕ) (t : Turn) (x : EndId) (b : Ledger) (ds : List DeedOn) (c : Ledger) → IsToldAt version t x b ds c
+    → List Message → List Message
+left_at version t x b ds c is ms = left version t x (number_of x b.places) (seen x b).holding (deeds_at x ds) (seen x c).holding is.told ms
+
+-- no receive is started
+abbrev pub IsDeaf : Holding → Type 0
+IsDeaf (Keeps k) = is_deaf k.receiving ≡ true
+IsDeaf (Gone own) = ⊥
+
+-- over a dead link nothing is coming once a receive is over
+abbrev pub IsSpent : Pair → (g h : Holding) → List Message → Type 0
+IsSpent p g h ms = IsReceiving g → IsDeaf h → p.far.standing ≡ Destroyed → ms ≡ []

@@ -1,4 +1,4 @@
-ghost use Rattle.std.specs.Prelude.{◌≡◌, ◌||◌, false, ℕ, List, [], ◌∷◌, ◌++◌, Option};
+ghost use Rattle.std.specs.Prelude.{◌≡◌, ◌≤◌, ◌<◌, ◌||◌, false, ℕ, List, [], ◌∷◌, ◌++◌, length, Option};
 ghost use Rattle.charlotte_calls.specs.Setting.{IsValid};
 ghost use Rattle.charlotte_calls.specs.declared.calls.Answer.{Answer as AnAnswer};
 ghost use Rattle.charlotte_calls.specs.declared.calls.ServiceStep.{ServiceStep as AStep};
@@ -12,15 +12,16 @@ ghost use Rattle.end_protocol.specs.Deeds.{Deed};
 ghost use Rattle.language_links.specs.Acting.{Done};
 ghost use Rattle.language_links.specs.Claims.{AreInOrder};
 ghost use Rattle.process_run.specs.Runs.{did};
-ghost use Rattle.process_run.specs.States.{DeedOn, Holding, Place, State as AProcess};
-ghost use Rattle.process_changes.specs.AtEnd.{AreAt, AreNew, AreSingle, ChangeAt, IsToldAt, ToldAt};
+ghost use Rattle.process_run.specs.States.{DeedOn, State as AProcess};
+ghost use Rattle.process_changes.specs.AtEnd.{AreAt, AreSingle, ChangesAt, IsToldAt, Seen, deeds_at, known_ledger, seen, total};
 ghost use Rattle.process_changes.specs.Changes.{Changes};
-ghost use Rattle.process_changes.specs.Telling.{Aftermath, ChangesByStep, Telling, Turn};
-ghost use Rattle.request_runs.specs.Changing.{Becomes, IsFit, IsStandingOf};
+ghost use Rattle.process_changes.specs.Ledgers.{Ledger};
+ghost use Rattle.process_changes.specs.Telling.{ChangesByStep, Telling, Turn};
+ghost use Rattle.request_runs.specs.Changing.{Becomes, IsHearing, IsStandingOf};
 ghost use Rattle.request_runs.specs.Followed.{IsFollowed};
 ghost use Rattle.request_runs.specs.Law.{AreExchangedBoth, HasAllEnds};
 ghost use Rattle.request_runs.specs.Sides.{Courses, Pair, is_destroyed, new_pair};
-ghost use Rattle.request_runs.specs.Told.{IsStandingNow, IsTrue, left};
+ghost use Rattle.request_runs.specs.Told.{IsSpent, IsTrueAt, left_at};
 ghost use Rattle.request_runs.specs.Ways.{HasWay, IsNextWay, IsWay};
 
 /// After any events at a link that was just made, requests were accepted at most once and in the order in which they were issued, and each connect that
@@ -59,31 +60,31 @@ pub fn steps_change_ends()
     ensures { (s : AProcess) (given : Option AnAnswer) → ChangesByStep s given (did s given) }
 {}
 
-/// What a step of a process is told, seen at one end.
+/// What a step of a process is told, seen at one end: one thing at most, with which it is in no more places than before.
 pub fn tellings_are_seen_at_ends()
-    ensures { (version : ℕ) (t : Turn) (x : EndId) (ps : List Place) (ds : List DeedOn) (qs : List Place) → Telling version t ps ds qs → AreSingle ps
-        → IsToldAt version t x ps ds qs }
+    ensures { (version : ℕ) (t : Turn) (x : EndId) (b : Ledger) (ds : List DeedOn) (c : Ledger) → Telling version t b ds c → AreSingle b.places
+        → IsToldAt version t x b ds c }
 {}
 
-/// Where it is true, that is events at the link of the end, or none, with its deeds; and a message that is reported is the first that is coming.
+/// Where it is true, that is events at the link of the end, or none, with its deeds; and a message that is reported is the first that is coming. A Send
+/// that was answered counts before. Once a receive is over, nothing is coming over a dead link.
 pub fn tellings_are_events()
-    ensures { (version : ℕ) (t : Turn) (x : EndId) (n : ℕ) (p : Pair) (g : Holding) (ds : List Deed) (h : Holding) (c : ToldAt version t x n g ds h)
-        → IsStandingNow t n g p.near.standing → IsTrue version t x n p g ds h c → Becomes version p ds h (left version t x n g ds h c p.near.coming) }
+    ensures { (version : ℕ) (t : Turn) (x : EndId) (b : Ledger) (ds : List DeedOn) (c : Ledger) (p : Pair) (is : IsToldAt version t x b ds c)
+        → total (seen x (known_ledger t b)) ≤ 1 → IsStandingOf (seen x (known_ledger t b)) p.near.standing → IsHearing (seen x (known_ledger t b)) p
+        → IsTrueAt version t x b ds c p is
+        → IsSpent p (seen x b).holding (seen x c).holding (left_at version t x b ds c is p.near.coming)
+        → Becomes version p (deeds_at x ds) (seen x c) (left_at version t x b ds c is p.near.coming) }
 {}
 
-/// What comes of it, seen at one end: one change after the other, where no end is got that the process holds, and it may get one more. An end that it gets
-/// is held from then on, as one that it holds again.
-pub fn aftermaths_are_seen_at_ends()
-    ensures { (version : ℕ) (x : EndId) (ps qs : List Place) (a : Aftermath version ps qs) → AreNew version ps qs a → AreSingle ps → AreAt version x ps [] qs }
-{}
-
-/// What a step of a process changes after what it was told, seen at one end: one change after the other, with the deeds on that end, in order.
+/// What a step of a process changes after what it was told, seen at one end: one change after the other, with the deeds on that end, in order. Each end
+/// is in one place at most before, and there are numbers for all ends that the process got.
 pub fn changes_are_seen_at_ends()
-    ensures { (version : ℕ) (x : EndId) (ps : List Place) (ds : List DeedOn) (qs : List Place) → Changes version ps ds qs → AreSingle ps → AreAt version x ps ds qs }
+    ensures { (version : ℕ) (x : EndId) (b : Ledger) (ds : List DeedOn) (c : Ledger) → Changes version b ds c → AreSingle b.places
+        → ((y : EndId) → total (seen y b) ≤ 1) → length c.places < 4294967295 → AreAt version x b ds c }
 {}
 
-/// Each of these changes is an event at the link of that end, or none, with its deeds.
+/// These changes are events at the link of that end, or none, with their deeds.
 pub fn changes_are_events()
-    ensures { (version : ℕ) (p : Pair) (g : Holding) (ds : List Deed) (h : Holding) (c : ChangeAt version g ds h) → IsStandingOf g p.near.standing
-        → IsFit version p g ds h c → Becomes version p ds h p.near.coming }
+    ensures { (version : ℕ) (p : Pair) (a : Seen) (ds : List Deed) (b : Seen) → ChangesAt version a ds b → total a ≤ 1
+        → IsStandingOf a p.near.standing → IsHearing a p → Becomes version p ds b p.near.coming }
 {}

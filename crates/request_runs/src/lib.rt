@@ -11,15 +11,15 @@
 //! to which it adds the one that it sends (`ways_go_on`).
 //!
 //! A step of a process is changes of its ends (`steps_change_ends`). Seen at one end what it is told is one thing at most (`tellings_are_seen_at_ends`), and what
-//! comes of that and what its threads do is one change after the other (`aftermaths_are_seen_at_ends`, `changes_are_seen_at_ends`); and each is events at the link of
-//! that end, or none (`tellings_are_events`, `changes_are_events`), where what is told is true (`IsTrue` in `specs/Told.antt`) and the change fits (`IsFit` in
-//! `specs/Changing.antt`).
+//! comes of that and what its threads do is one change after the other (`changes_are_seen_at_ends`); and all that is events at the link of that end, or none
+//! (`tellings_are_events`, `changes_are_events`), where what is told is true (`IsTrueAt` in `specs/Told.antt`). An end that is in one place at most stays so, and
+//! over a dead link nothing is coming to an end without a receive (`IsHearing` in `specs/Changing.antt`).
 #![tactic(auto)]
 
 mod law;
 
 pub use law::{
-    aftermaths_are_seen_at_ends, changes_are_events, changes_are_seen_at_ends, events_go_in_order,
-    events_keep_ends, followed_runs_are_in_order, steps_change_ends, tellings_are_events,
-    tellings_are_seen_at_ends, ways_are_lists, ways_go_on,
+    changes_are_events, changes_are_seen_at_ends, events_go_in_order, events_keep_ends,
+    followed_runs_are_in_order, steps_change_ends, tellings_are_events, tellings_are_seen_at_ends,
+    ways_are_lists, ways_go_on,
 };

@@ -1,4 +1,4 @@
-use Rattle.process_changes.proofs.AtEnd.{told_at}
+use Rattle.process_changes.proofs.ToldAt.{told_at}
 use Rattle.request_runs.proofs.law.tellings_are_seen_at_ends.Goals as goal
 
 pub returns : goal.returns
