@@ -1,4 +1,11 @@
 pub mod Numbers
+pub mod Places
+pub mod Due
+pub mod Acting
+pub mod Slices
+pub mod Telling
+pub mod Steps
+pub mod Asking
 pub mod Counting
 pub mod Held
 pub mod AtEnd

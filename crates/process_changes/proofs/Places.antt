@@ -14,6 +14,7 @@ use Rattle.process_run.specs.States.{DeedOn, Gone, Held, Holding, Keeps, Place, 
 use Rattle.process_run.specs.Actions.{fault_among, is_kept_back, link_fault, or_fault}
 use Rattle.process_run.specs.Deaths.{falls, raises, raises_in}
 use Rattle.process_run.specs.Ends.{end_of, ends_at, get_all, gets_one, held_at, held_in, held_of, hold_all, let_go, number_of, place_at, set_holding, with_holding}
+use Rattle.process_changes.proofs.Numbers.{other_place}
 use Rattle.process_changes.specs.Changes.{Change, Changes, Dooms, Gets, Holds, IsHeld, LetsGo, None as NoChange, RestWhole, Sorts, Then}
 use Rattle.process_changes.specs.Ledgers.{Ledger, how_often, ledger}
 
@@ -102,27 +103,6 @@ place_is n (Some p) h ps there at = holding_is n p p.holding h ps refl there at
 
 pub held_here : (n : ℕ) (h : Held) (s : State) → held_at n s ≡ Some h → IsHeldHere n h s.places
 held_here n h s at = place_is n (place_at n s.places) h s.places refl at
-
--- ---- one end is let go, and the others are as they were
-
-other_index : (i j : ℕ) (g : Holding) (ps : List Place) → (i ≡ j → ⊥) → slice_get (set_holding i g (slice_get ps i) ps) j ≡ slice_get ps j
-other_index i j g [] other = refl
-other_index zero zero g (p ∷ ps) other = absurd (other refl)
-other_index zero (suc j) g (p ∷ ps) other = refl
-other_index (suc i) j g (p ∷ ps) other = by_rest (slice_get ps i) refl j other (λ k away. other_index i k g ps away)
-  where
-    by_rest : (o : Option Place) → slice_get ps i ≡ o → (k : ℕ) → (suc i ≡ k → ⊥) → ((l : ℕ) → (i ≡ l → ⊥) → slice_get (set_holding i g (slice_get ps i) ps) l ≡ slice_get ps l) →
-        slice_get (set_holding (suc i) g (slice_get ps i) (p ∷ ps)) k ≡ slice_get (p ∷ ps) k
-    by_rest None e k away rest = ap (λ (o : Option Place). slice_get (set_holding (suc i) g o (p ∷ ps)) k) e
-    by_rest (Some q) e zero away rest = ap (λ (o : Option Place). slice_get (set_holding (suc i) g o (p ∷ ps)) zero) e
-    by_rest (Some q) e (suc k) away rest =
-        ap (λ (o : Option Place). slice_get (set_holding (suc i) g o (p ∷ ps)) (suc k)) e ∙ ap (λ (o : Option Place). slice_get (set_holding i g o ps) k) (sym e)
-        ∙ rest k (λ same. away (ap suc same))
-
-pub other_place : (n m : ℕ) (g : Holding) (ps : List Place) → (n ≡ m → ⊥) → place_at m (with_holding n g ps) ≡ place_at m ps
-other_place zero m g ps other = refl
-other_place (suc i) zero g ps other = refl
-other_place (suc i) (suc j) g ps other = other_index i j g ps (λ same. other (ap suc same))
 
 -- ---- ends that go with a message
 

@@ -13,6 +13,8 @@ ghost use Rattle.language_links.specs.Acting.{Done};
 ghost use Rattle.language_links.specs.Claims.{AreInOrder};
 ghost use Rattle.process_run.specs.Runs.{did};
 ghost use Rattle.process_run.specs.States.{DeedOn, State as AProcess};
+ghost use Rattle.process_sound.specs.Processes.{IsRunning};
+ghost use Rattle.process_sound.specs.Told.{IsTold};
 ghost use Rattle.process_changes.specs.AtEnd.{AreAt, AreSingle, ChangesAt, IsToldAt, Seen, deeds_at, known_ledger, seen, total};
 ghost use Rattle.process_changes.specs.Changes.{Changes};
 ghost use Rattle.process_changes.specs.Ledgers.{Ledger};
@@ -57,7 +59,7 @@ pub fn ways_go_on()
 /// A step of a process changes its ends one after the other, first by what its answer tells and then by what its threads do; and its deeds are those of
 /// the changes.
 pub fn steps_change_ends()
-    ensures { (s : AProcess) (given : Option AnAnswer) → ChangesByStep s given (did s given) }
+    ensures { (s : AProcess) (given : Option AnAnswer) → IsTold given → IsRunning s → ChangesByStep s given (did s given) }
 {}
 
 /// What a step of a process is told, seen at one end: one thing at most, with which it is in no more places than before.
