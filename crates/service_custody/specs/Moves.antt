@@ -34,8 +34,8 @@ gives q x made = how_often x (enclosed_in (given_to q made))
 
 -- what a step does with an end
 pub data Moves (s : State) (made : ServiceStep) (t : State) (x : EndId) : Type 0 where
-  -- it stays, and a report that brings it may be given
-  Stays : (t.ends x).place ≡ (s.ends x).place → ((q : Pid) → brings t q x + gives q x made ≡ brings s q x) → Moves s made t x
+  -- it stays, and a report that brings it may be given. The reports of a process go as it ends
+  Stays : (t.ends x).place ≡ (s.ends x).place → ((q : Pid) → (brings t q x + gives q x made ≡ brings s q x) ⊎ ((made ≡ step.Exit q) × (brings t q x ≡ 0))) → Moves s made t x
   -- it is made
   Makes : (p : Pid) (a b : EndId) → made ≡ step.Make p a b → (x ≡ a) ⊎ (x ≡ b) → (s.ends x).place ≡ place.Unmade → (t.ends x).place ≡ place.Owned p
       → ((q : Pid) → brings t q x ≡ brings s q x) → Moves s made t x

@@ -1,0 +1,6 @@
+pub mod Turns
+pub mod Gains
+pub mod Moving
+pub mod Matching
+pub mod Receiving
+pub mod Deaths
