@@ -27,7 +27,7 @@ use Rattle.service_step.specs.Causes.{sees}
 use Rattle.service_step.specs.Ends.{end_eq, is_started_inward, matched_outward, carried_by, destroys, destroys_each, destroys_owned, dropped, fresh, idles, is_destroyed, is_made, is_owned_by, makes, matched_message, matches, noticed_end, notices, owner, places, put, puts, returned_end, returns, starts_send, takes, to_owner, turns_inward, turns_outward, unmade, waiting_message}
 use Rattle.service_step.specs.Lawful.{message_of}
 use Rattle.service_step.specs.State.{State, dead_receive_report, next_link, send_report}
-use Rattle.service_step.specs.Steps.{IsServiceStep, after_cancel, dead_reports, done_reports, may_send_as, returned_reports}
+use Rattle.service_step.specs.Steps.{IsServiceStep, after_cancel, dead_reports, done_reports, is_new_pair, may_send_as, returned_reports, runs}
 use Rattle.service_step.specs.declared.state.End.{End}
 use Rattle.service_step.specs.declared.state.Inward.TheVariants as inward
 use Rattle.service_step.specs.declared.state.Message.{Message}
@@ -57,12 +57,14 @@ how_often-none : (x : EndId) (xs : List EndId) → among x xs ≡ false → how_
 how_often-none x [] none = refl
 how_often-none x (y ∷ xs) none =
     let both = or-false (end_eq x y) (among x xs) none in
-    ap (λ b. (if b then 1 else 0) + how_often x xs) (end_eq-sym y x ∙ both.0) ∙ how_often-none x xs both.1
+    let first : how_often x (y ∷ xs) ≡ 0 + how_often x xs = ap (λ b. (if b then 1 else 0) + how_often x xs) (end_eq-sym y x ∙ both.0) in
+    let rest : how_often x xs ≡ 0 = how_often-none x xs both.1 in
+    omega arith
 
 -- an end stands once among different ones
 how_often-one : (x : EndId) (xs : List EndId) → names_twice xs ≡ false → among x xs ≡ true → how_often x xs ≡ 1
 how_often-one x [] apart is = absurd (true≢false (sym is))
-how_often-one x (y ∷ xs) apart is = by (end_eq x y) refl is
+how_often-one x (y ∷ xs) apart is = by (end_eq x y) refl is (how_often-one x xs)
   where
     both : (list_any (end_eq y) xs ≡ false) × (names_twice xs ≡ false)
     both = or-false (list_any (end_eq y) xs) (names_twice xs) apart
@@ -70,12 +72,12 @@ how_often-one x (y ∷ xs) apart is = by (end_eq x y) refl is
     first : (b : Bool) → end_eq x y ≡ b → how_often x (y ∷ xs) ≡ (if b then 1 else 0) + how_often x xs
     first b same = ap (λ c. (if c then 1 else 0) + how_often x xs) (end_eq-sym y x ∙ same)
 
-    by : (b : Bool) → end_eq x y ≡ b → b || among x xs ≡ true → how_often x (y ∷ xs) ≡ 1
-    by true same is =
+    by : (b : Bool) → end_eq x y ≡ b → b || among x xs ≡ true → (names_twice xs ≡ false → among x xs ≡ true → how_often x xs ≡ 1) → how_often x (y ∷ xs) ≡ 1
+    by true same is rest =
         let none : how_often x xs ≡ 0 = how_often-none x xs (subst (λ z. list_any (end_eq z) xs ≡ false) (sym (end_eq-same x y same)) both.0) in
         let whole : how_often x (y ∷ xs) ≡ 1 + how_often x xs = first true same in
         omega arith
-    by false other is = first false other ∙ how_often-one x xs both.1 is
+    by false other is rest = let whole : how_often x (y ∷ xs) ≡ 0 + how_often x xs = first false other in let one : how_often x xs ≡ 1 = rest both.1 is in omega arith
 
 -- what the reports of a step bring
 
@@ -294,14 +296,14 @@ module _ (s : State) (made : ServiceStep) (t : State) (x : EndId) (is : IsServic
 -- each of some ends passes
 all-of : (f : EndId → Bool) (xs : List EndId) → list_any f xs ≡ false → (y : EndId) → among y xs ≡ true → f y ≡ false
 all-of f [] none y is = absurd (true≢false (sym is))
-all-of f (x ∷ xs) none y is = by (end_eq y x) refl is
+all-of f (x ∷ xs) none y is = by (end_eq y x) refl is (all-of f xs)
   where
     both : (f x ≡ false) × (list_any f xs ≡ false)
     both = or-false (f x) (list_any f xs) none
 
-    by : (c : Bool) → end_eq y x ≡ c → c || among y xs ≡ true → f y ≡ false
-    by true same is = subst (λ z. f z ≡ false) (sym (end_eq-same y x same)) both.0
-    by false apart is = all-of f xs both.1 y is
+    by : (c : Bool) → end_eq y x ≡ c → c || among y xs ≡ true → (list_any f xs ≡ false → (z : EndId) → among z xs ≡ true → f z ≡ false) → f y ≡ false
+    by true same is rest = subst (λ z. f z ≡ false) (sym (end_eq-same y x same)) both.0
+    by false apart is rest = rest both.1 y is
 
 module _ (s : State) (t : State) (x : EndId) (k : IsConsistent s) where
   moves-send : (e : EndId) (n : ℕ) (bytes : List ℕ) (xs : List EndId) → IsServiceStep s (step.Send e n bytes xs) t → Moves s (step.Send e n bytes xs) t x
@@ -336,10 +338,10 @@ module _ (s : State) (t : State) (x : EndId) (k : IsConsistent s) where
       f = fresh (place.Owned p)
 
       both : (s.ends a ≡ unmade) × (s.ends b ≡ unmade)
-      both = new-unmade s (next_link s p) a b k (and-true _ _ is.allowed).1
+      both = new-unmade s (next_link s p) a b k (and-true (runs s p) (is_new_pair s.ends (next_link s p) a b) is.allowed).1
 
       brought : (q : Pid) → brings t q x ≡ brings s q x
-      brought = alike s _ t x is (λ q. refl) refl (λ q. refl)
+      brought = alike s (step.Make p a b) t x is (λ q. refl) refl (λ q. refl)
 
       at_b : t.ends b ≡ f
       at_b = ap (λ z. z.ends b) is.after ∙ put-at (put s.ends a f) b f
