@@ -48,14 +48,11 @@ sent-none s _ t f is gone = refl
 
 -- nor is a message taken where the death was noticed
 taken-none : (s : State) (made : ServiceStep) (t : State) (x : EndId) → IsServiceStep s made t → (s.ends x).noticed ≡ true → taken_by x s made ≡ []
-taken-none s (step.Take e n p late) t x is noticed = by (end_eq x (opposite e)) refl
+taken-none s (step.Take e n p late) t x is noticed = by (not-true _ (and-true _ _ (and-true _ _ (and-true _ _ is.allowed).0).0).1) (end_eq x (opposite e)) refl
   where
-    not : (s.ends (opposite e)).noticed ≡ false
-    not = not-true _ (and-true _ _ (and-true _ _ (and-true _ _ is.allowed).0).0).1
-
-    by : (b : Bool) → end_eq x (opposite e) ≡ b → (if b then numbered n (matched_message (s.ends e).outward) else []) ≡ []
-    by true same = absurd (true≢false (sym (subst (λ z. (s.ends z).noticed ≡ true) (end_eq-same x (opposite e) same) noticed) ∙ not))
-    by false apart = refl
+    by : (s.ends (opposite e)).noticed ≡ false → (b : Bool) → end_eq x (opposite e) ≡ b → (if b then numbered n (matched_message (s.ends e).outward) else []) ≡ []
+    by silent true same = absurd (true≢false (sym (subst (λ z. (s.ends z).noticed ≡ true) (end_eq-same x (opposite e) same) noticed) ∙ silent))
+    by silent false apart = refl
 taken-none s _ t x is noticed = refl
 
 -- a report that is given leaves each message
@@ -100,17 +97,11 @@ marked-none s x made dead (inl its) = (ap (λ z. told_in x (given_by z)) its, ap
 marked-none s x made dead (inr (n, its)) = (ap (λ z. told_in x (given_by z)) its, ap (taken_by x s) its)
 
 module _ (s : State) (made : ServiceStep) (t : State) (x : EndId) (k : IsConsistent s) (is : IsServiceStep s made t) (not : cancels_send (opposite x) made ≡ false) where
-  f : EndId
-  f = opposite x
-
-  out : State → List Message
-  out u = messages (outstanding (u.ends (opposite x)))
-
   open-way : (u : State) → (u.ends x).noticed ≡ false → on_way u x ≡ messages (outstanding (u.ends (opposite x)))
-  open-way u no = ap (λ b. if b then [] else messages (outstanding (u.ends (opposite x)))) no
+  open-way u silent = ap (λ b. if b then [] else messages (outstanding (u.ends (opposite x)))) silent
 
   shut-way : (u : State) → (u.ends x).noticed ≡ true → on_way u x ≡ []
-  shut-way u yes = ap (λ b. if b then [] else messages (outstanding (u.ends (opposite x)))) yes
+  shut-way u noticed = ap (λ b. if b then [] else messages (outstanding (u.ends (opposite x)))) noticed
 
   -- the death was noticed before
   way-shut : (s.ends x).noticed ≡ true → (t.ends x).noticed ≡ true → OnWay s made t x
@@ -229,7 +220,7 @@ comes-so s made t x k a not is = next-comes s made t x k is not
 
 -- a deaf end: its opposite is destroyed, and it receives nothing
 pub deaf-nothing : (s : State) (x : EndId) → IsConsistent s → AreMatched s → IsGone s.ends (opposite x) → is_living (s.ends x).place ≡ true → (s.ends x).inward ≡ inward.Idle → coming s x ≡ []
-deaf-nothing s x k a gone lives idle = ap (λ l. l ++ on_way s x) (reported-none s k x (ap is_unreported_inward idle) (s.ends x).place) ∙ by (s.ends x).noticed refl
+deaf-nothing s x k a unmet lives idle = ap (λ l. l ++ on_way s x) (reported-none s k x (ap is_unreported_inward idle) (s.ends x).place) ∙ by (s.ends x).noticed refl
   where
     dead : (s.ends x).place ≡ place.Destroyed → ⊥
     dead is = true≢false (sym lives ∙ ap is_living is)
@@ -242,7 +233,7 @@ deaf-nothing s x k a gone lives idle = ap (λ l. l ++ on_way s x) (reported-none
 
     nothing : (s.ends x).noticed ≡ false → (o : Outward) → (s.ends (opposite x)).outward ≡ o → messages (numbered (s.ends (opposite x)).sent (message_of o)) ≡ []
     nothing not outward.Idle is = refl
-    nothing not (outward.Waiting m) is = absurd (nobody (owner (s.ends (opposite x)).place) (ap owner gone) (k.kept.waiting (opposite x) m is))
+    nothing not (outward.Waiting m) is = absurd (nobody (owner (s.ends (opposite x)).place) (ap owner unmet) (k.kept.waiting (opposite x) m is))
     nothing not (outward.Matched m) is =
         absurd (matched-idle (s.ends (opposite x)).sent (subst (λ z. (s.ends z).inward ≡ inward.Matched (s.ends (opposite x)).sent) (opposite-opposite x) (a (opposite x) m is (λ at. dead (subst (IsGone s.ends) (opposite-opposite x) at)) (subst (λ z. (s.ends z).noticed ≡ false) (sym (opposite-opposite x)) not))) idle)
     nothing not outward.Taken is = refl

@@ -39,12 +39,16 @@ use Rattle.service_streams.specs.Streams.{given_by, is_done, messages, numbered,
 told-append : (x : EndId) (a b : List Report) → told_in x (a ++ b) ≡ told_in x a ++ told_in x b
 told-append x a b = flat_map-append (told_by x) a b
 
+-- a message, or none
+abbrev list_if : Bool → Message → List Message
+list_if b m = if b then m ∷ [] else []
+
 -- what reports tell of an end
 
 told-sent : (x e : EndId) (o : Outcome) (xs : List EndId) → told_by x (send_report e o xs) ≡ []
 told-sent x e o xs = by (end_eq x e)
   where
-    by : (b : Bool) → (if (b && false) && is_done o then record { bytes = []; carried = xs } ∷ [] else []) ≡ []
+    by : (b : Bool) → list_if ((b && false) && is_done o) (record { bytes = []; carried = xs }) ≡ []
     by true = refl
     by false = refl
 
@@ -56,7 +60,7 @@ told-dead : (x e : EndId) (b : Bool) → told_in x (if b then dead_receive_repor
 told-dead x e false = refl
 told-dead x e true = by (end_eq x e)
   where
-    by : (c : Bool) → (if (c && true) && false then record { bytes = []; carried = [] } ∷ [] else []) ++ [] ≡ []
+    by : (c : Bool) → list_if ((c && true) && false) (record { bytes = []; carried = [] }) ++ [] ≡ []
     by true = refl
     by false = refl
 
@@ -83,7 +87,7 @@ told-done x e n None = by (end_eq x e)
     by false = refl
 told-done x e n (Some m) = by (end_eq x e)
   where
-    by : (b : Bool) → (if (b && true) && true then record { bytes = m.bytes; carried = m.carried } ∷ [] else []) ++ [] ≡ messages (if b then numbered n (Some m) else [])
+    by : (b : Bool) → list_if ((b && true) && true) (record { bytes = m.bytes; carried = m.carried }) ++ [] ≡ messages (if b then numbered n (Some m) else [])
     by true = refl
     by false = refl
 
@@ -196,9 +200,9 @@ module _ (s : State) (made : ServiceStep) (t : State) (x : EndId) (k : IsConsist
           step_is : IsServiceStep s (step.Report p r) t
           step_is = subst (λ z. IsServiceStep s z t) its is
 
-          at : (b : Bool) → is_receipt x r ≡ b → (if b then record { bytes = r.bytes; carried = r.enclosed } ∷ [] else []) ≡ []
+          at : (b : Bool) → is_receipt x r ≡ b → list_if b (record { bytes = r.bytes; carried = r.enclosed }) ≡ []
           at true it = absurd (true≢false (sym (over-at s x k p r (oldest-there (s.process p.0).reports r step_is.allowed.1) it) ∙ not))
-          at false no = refl
+          at false none = refl
       by _ its = refl
 
   -- what is told is told to the owner
@@ -219,7 +223,7 @@ module _ (s : State) (made : ServiceStep) (t : State) (x : EndId) (k : IsConsist
           at : ((nat_eq p.0 q.0 ≡ true) × (p ≡ q)) ⊎ ((nat_eq p.0 q.0 ≡ false) × (p.0 ≢ q.0)) → (b : Bool) → is_receipt x r ≡ b → told_in x (r ∷ []) ≡ told_in x (if nat_eq p.0 q.0 then r ∷ [] else [])
           at (inl same) b it = ap (λ c. told_in x (if c then r ∷ [] else [])) (sym same.0)
           at (inr apart) true it = absurd (apart.1 (own it))
-          at (inr apart) false it = ap (λ b. (if b then record { bytes = r.bytes; carried = r.enclosed } ∷ [] else []) ++ []) it ∙ ap (λ c. told_in x (if c then r ∷ [] else [])) (sym apart.0)
+          at (inr apart) false it = ap (λ b. list_if b (record { bytes = r.bytes; carried = r.enclosed }) ++ []) it ∙ ap (λ c. told_in x (if c then r ∷ [] else [])) (sym apart.0)
       by _ its = refl
 
   -- what q is told, before and after
