@@ -218,7 +218,7 @@ module _ (s : State) (t : State) (q : Pid) (k : IsConsistent s) where
       (subst (λ o. Woken o (opposite e) q (s.process q.0).phase (t.process q.0).phase) (sym (ap owner at))
       (subst (λ z. Woken (Some p) (opposite e) q (s.process q.0).phase (z.process q.0).phase) (sym is.after) (tells-woken (Some p) (opposite e) (done_reports (opposite e) (matched_message (s.ends e).outward)) s.process q)))
       refl refl (λ g apart. if-none (end_eq (opposite g) e) late (answer.Refused cause.Late) (apart-too g apart (end_eq (opposite g) e) refl))
-      (λ owns so. (answer.Refused cause.Late, if-some (end_eq (opposite (opposite e)) e) late (answer.Refused cause.Late) (subst (λ z. end_eq z e ≡ true) (sym (opposite-opposite e)) (end_eq-refl e)) (late-so owns so)))
+      (λ owns so. (answer.Refused cause.Late, if-some (end_eq (opposite (opposite e)) e) late (answer.Refused cause.Late) (subst (λ z. end_eq z e ≡ true) (sym (opposite-opposite e)) (end_eq-refl e)) (late-so (and-true _ _ is.allowed).1 owns so)))
     where
       at : (s.ends (opposite e)).place ≡ place.Owned p
       at = take-owned s e n p late k is.allowed
@@ -226,12 +226,12 @@ module _ (s : State) (t : State) (q : Pid) (k : IsConsistent s) where
       one : Some p ≡ Some q → p ≡ q
       one same = cc
 
-      late-so : owner (s.ends (opposite e)).place ≡ Some q → is_cancelling (opposite e) (s.process q.0).phase ≡ true → late ≡ true
-      late-so owns so = agree-same late _ (and-true _ _ is.allowed).1 ∙ subst (λ z. is_cancelling (opposite e) (s.process z.0).phase ≡ true) (sym (one (sym (ap owner at) ∙ owns))) so
+      late-so : agree late (is_cancelling (opposite e) (s.process p.0).phase) ≡ true → owner (s.ends (opposite e)).place ≡ Some q → is_cancelling (opposite e) (s.process q.0).phase ≡ true → late ≡ true
+      late-so agreed owns so = agree-same late (is_cancelling (opposite e) (s.process p.0).phase) agreed ∙ subst (λ z. is_cancelling (opposite e) (s.process z.0).phase ≡ true) (sym (one (sym (ap owner at) ∙ owns))) so
 
       apart-too : (g : EndId) → end_eq g (opposite e) ≡ false → (b : Bool) → end_eq (opposite g) e ≡ b → b ≡ false
       apart-too g apart true same = absurd (true≢false (sym (subst (λ z. end_eq g z ≡ true) (sym (opposite-opposite g) ∙ ap opposite (end_eq-same (opposite g) e same)) (end_eq-refl g)) ∙ apart))
-      apart-too g apart false not = refl
+      apart-too g apart false other = refl
 
   phase-notice : (e : EndId) (dead : Bool) → IsServiceStep s (step.Notice e dead) t → Next (step.Notice e dead)
   phase-notice e dead is =
@@ -243,25 +243,28 @@ module _ (s : State) (t : State) (q : Pid) (k : IsConsistent s) where
       (answer.Refused cause.Dead, if-some (end_eq e e) dead (answer.Refused cause.Dead) (end_eq-refl e) (agree-same dead _ (and-true _ _ is.allowed).1 ∙ ap (λ o. owner_cancels o e s.process) owns ∙ so)))
 
   phase-back : (e : EndId) (n : ℕ) (dead : Bool) → IsServiceStep s (step.Back e n dead) t → Next (step.Back e n dead)
-  phase-back e n dead is = by (s.ends e).noticed refl (ap (λ z. z.process) is.after)
+  phase-back e n dead is = by (and-true _ _ is.allowed).1 (s.ends e).noticed refl (ap (λ z. z.process) is.after)
     where
       sent : List Report
       sent = returned_reports e (matched_message (s.ends e).outward)
 
-      agrees : (b : Bool) → (s.ends e).noticed ≡ b → dead ≡ (not b && owner_cancels (owner (s.ends e).place) e s.process)
-      agrees b is_b = agree-same dead _ (and-true _ _ is.allowed).1 ∙ ap (λ c. not c && owner_cancels (owner (s.ends e).place) e s.process) is_b
+      Agreed : Type 0
+      Agreed = agree dead (not (s.ends e).noticed && owner_cancels (owner (s.ends e).place) e s.process) ≡ true
+
+      agrees : Agreed → (b : Bool) → (s.ends e).noticed ≡ b → dead ≡ (not b && owner_cancels (owner (s.ends e).place) e s.process)
+      agrees agreed b is_b = agree-same dead (not (s.ends e).noticed && owner_cancels (owner (s.ends e).place) e s.process) agreed ∙ ap (λ c. not c && owner_cancels (owner (s.ends e).place) e s.process) is_b
 
       silent : (g : EndId) → dead ≡ false → cancel_in g (step.Back e n dead) ≡ None
-      silent g not = ap (λ c. if end_eq g e && c then Some (answer.Refused cause.Dead) else None) not ∙ ap (λ c. if c then Some (answer.Refused cause.Dead) else None) (and-false (end_eq g e))
+      silent g alive = ap (λ c. if end_eq g e && c then Some (answer.Refused cause.Dead) else None) alive ∙ ap (λ c. if c then Some (answer.Refused cause.Dead) else None) (and-false (end_eq g e))
 
-      by : (b : Bool) → (s.ends e).noticed ≡ b → t.process ≡ (if b then gains_owner (owner (s.ends e).place) sent s.process else tells (owner (s.ends e).place) e (sent ++ dead_reports e (s.ends e)) s.process) → Next (step.Back e n dead)
-      by true noticed after =
-          ap (λ f. (f q.0).phase) after ∙ owner-phase (owner (s.ends e).place) sent s.process q ∙ sym (next-same s q (step.Back e n dead) (s.process q.0).phase refl refl (λ g is_g. silent g (agrees true noticed)))
-      by false not_yet after =
+      by : Agreed → (b : Bool) → (s.ends e).noticed ≡ b → t.process ≡ (if b then gains_owner (owner (s.ends e).place) sent s.process else tells (owner (s.ends e).place) e (sent ++ dead_reports e (s.ends e)) s.process) → Next (step.Back e n dead)
+      by agreed true noticed after =
+          ap (λ f. (f q.0).phase) after ∙ owner-phase (owner (s.ends e).place) sent s.process q ∙ sym (next-same s q (step.Back e n dead) (s.process q.0).phase refl refl (λ g is_g. silent g (agrees agreed true noticed)))
+      by agreed false not_yet after =
           next-woken s q (step.Back e n dead) e (t.process q.0).phase k
           (subst (λ f. Woken (owner (s.ends e).place) e q (s.process q.0).phase (f q.0).phase) (sym after) (tells-woken (owner (s.ends e).place) e (sent ++ dead_reports e (s.ends e)) s.process q))
           refl refl (λ g apart. if-none (end_eq g e) dead (answer.Refused cause.Dead) apart)
-          (λ owns so. (answer.Refused cause.Dead, if-some (end_eq e e) dead (answer.Refused cause.Dead) (end_eq-refl e) (agrees false not_yet ∙ ap (λ o. owner_cancels o e s.process) owns ∙ so)))
+          (λ owns so. (answer.Refused cause.Dead, if-some (end_eq e e) dead (answer.Refused cause.Dead) (end_eq-refl e) (agrees agreed false not_yet ∙ ap (λ o. owner_cancels o e s.process) owns ∙ so)))
 
   pub phase-of : (made : ServiceStep) → IsServiceStep s made t → Next made
   phase-of (step.Make p a b) is = quiet (step.Make p a b) (ap (λ z. z.process) is.after) refl refl (λ g. refl)
