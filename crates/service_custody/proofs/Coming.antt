@@ -1,7 +1,6 @@
 -- What comes to an end, over a step: what is told was the first, and what is sent on the opposite end comes behind all else.
-use Rattle.std.proofs.Common.{◌≡◌, ℕ, Bool, true, false, true≢false, ◌&&◌, ◌⊎◌, inl, inr, if◌then◌else◌, is_some, Option, Some, None, IsSome, List, [], ◌∷◌, ◌++◌, append-nil, append_assoc, refl, sym, ap, subst, ◌∙◌}
+use Rattle.std.proofs.Common.{◌≡◌, ℕ, Bool, true, false, true≢false, ◌⊎◌, inl, inr, if◌then◌else◌, is_some, Option, Some, None, IsSome, List, [], ◌∷◌, ◌++◌, append-nil, append_assoc, refl, sym, ap, subst, ◌∙◌}
 use Rattle.std.proofs.lemmas.List.{map-append}
-use mathlib.Core.List.{IsPrefix}
 use Rattle.charlotte_calls.specs.Names.{opposite}
 use Rattle.charlotte_calls.specs.declared.calls.Report.{Report}
 use Rattle.charlotte_calls.specs.declared.calls.ServiceStep.{ServiceStep}
@@ -20,7 +19,7 @@ use Rattle.service_custody.proofs.Turns.{Turn, frees, gets, marked, meets, start
 use Rattle.service_custody.specs.Coming.{AreMatched, ComesSo, Drops, Goes, Gone, coming, on_way, reported_to}
 use Rattle.service_lawful.specs.Consistent.{IsConsistent, is_over}
 use Rattle.service_runs.proofs.Moves.{puts-apart, puts-either, turns_inward-sends}
-use Rattle.service_step.specs.Ends.{end_eq, idles, is_living, is_unreported_inward, is_unreported_outward, matched_message, owner, puts, turns_inward, turns_outward}
+use Rattle.service_step.specs.Ends.{end_eq, idles, is_living, is_unreported_inward, is_unreported_outward, matched_message, owner, puts, turns_outward}
 use Rattle.service_step.specs.Lawful.{message_of}
 use Rattle.service_step.specs.State.{State}
 use Rattle.service_step.specs.Steps.{IsServiceStep, may_send_as}
@@ -31,7 +30,7 @@ use Rattle.service_step.specs.declared.state.Outward.{Outward}
 use Rattle.service_step.specs.declared.state.Outward.TheVariants as outward
 use Rattle.service_step.specs.declared.state.Place.TheVariants as place
 use Rattle.service_streams.proofs.Kept.{IsClosed, IsKept, next-kept}
-use Rattle.service_streams.proofs.Places.{IsGone, gone-stays, oldest-there}
+use Rattle.service_streams.proofs.Places.{IsGone, oldest-there}
 use Rattle.service_streams.specs.Streams.{Sent, but_last, cancels_send, given_by, kept_by, messages, numbered, outstanding, sent_by, taken_by, told_in}
 
 -- a step that sends on an end is of its owner
@@ -210,10 +209,11 @@ module _ (s : State) (made : ServiceStep) (t : State) (x : EndId) (k : IsConsist
           (sym (append_assoc (told_in x (given_by made)) (reported_to t x (t.ends x).place) (on_way t x)) ∙ ap (λ l. l ++ on_way t x) told ∙ append_assoc (reported_to s x (s.ends x).place) (messages (taken_by x s made)) (on_way t x)
           ∙ ap (λ l. reported_to s x (s.ends x).place ++ l) same ∙ sym (append_assoc (reported_to s x (s.ends x).place) (on_way s x) (messages (sent_by (opposite x) made))))
       by (inl told) (drops dead shut quiet rest same) =
-          Drops dead quiet
-          (rest,
-          ap (λ l. (reported_to t x (t.ends x).place ++ l) ++ rest) shut ∙ ap (λ l. l ++ rest) (append-nil (reported_to t x (t.ends x).place) ∙ ap (λ l. l ++ reported_to t x (t.ends x).place) (sym quiet) ∙ told)
-          ∙ append_assoc (reported_to s x (s.ends x).place) (messages (taken_by x s made)) rest ∙ ap (λ l. reported_to s x (s.ends x).place ++ l) same)
+          Drops dead quiet (
+            rest,
+            ap (λ l. (reported_to t x (t.ends x).place ++ l) ++ rest) shut ∙ ap (λ l. l ++ rest) (append-nil (reported_to t x (t.ends x).place) ∙ ap (λ l. l ++ reported_to t x (t.ends x).place) (sym quiet) ∙ told)
+                ∙ append_assoc (reported_to s x (s.ends x).place) (messages (taken_by x s made)) rest ∙ ap (λ l. reported_to s x (s.ends x).place ++ l) same,
+          )
 
 pub comes-so : (s : State) (made : ServiceStep) (t : State) (x : EndId) → IsConsistent s → AreMatched s → cancels_send (opposite x) made ≡ false → IsServiceStep s made t → ComesSo s made t x
 comes-so s made t x k a not is = next-comes s made t x k is not

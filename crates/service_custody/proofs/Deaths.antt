@@ -1,5 +1,5 @@
 -- A death that is told is true.
-use Rattle.std.proofs.Common.{◌≡◌, ℕ, Bool, true, false, true≢false, ◌&&◌, ◌||◌, ◌⊎◌, inl, inr, if◌then◌else◌, Option, Some, None, List, [], ◌∷◌, Contains, refl, sym, ap, subst, ◌∙◌}
+use Rattle.std.proofs.Common.{◌≡◌, Bool, true, false, true≢false, ◌&&◌, ◌||◌, ◌⊎◌, inl, inr, if◌then◌else◌, Some, None, List, [], ◌∷◌, Contains, refl, sym, subst, ◌∙◌}
 use Rattle.charlotte_calls.specs.Causes.{first_of, cancel_causes, receive_causes, send_causes}
 use Rattle.charlotte_calls.specs.Names.{opposite}
 use Rattle.charlotte_calls.specs.declared.calls.Answer.TheVariants as answer
@@ -10,13 +10,13 @@ use Rattle.charlotte_calls.specs.declared.calls.Report.{Report}
 use Rattle.charlotte_calls.specs.declared.calls.ServiceStep.{ServiceStep}
 use Rattle.charlotte_calls.specs.declared.calls.ServiceStep.TheVariants as step
 use Rattle.charlotte_calls.specs.declared.names.EndId.{EndId}
-use Rattle.charlotte_calls.specs.declared.names.Outcome.{Outcome}
 use Rattle.charlotte_calls.specs.declared.names.Outcome.TheVariants as outcome
 use Rattle.charlotte_calls.specs.declared.names.Pid.{Pid}
 use Rattle.service_change.proofs.Change.{idle-over, none-some}
 use Rattle.service_change.proofs.Counts.{and-true}
 use Rattle.service_change.proofs.EndEq.{end_eq-same, opposite-opposite}
 use Rattle.service_change.proofs.Facts.{busy-made}
+use Rattle.service_custody.proofs.Turns.{destroyed-is}
 use Rattle.service_custody.specs.Deaths.{AreDeathsTrue, IsGone, IsOn, Cancels, Receives, Sends}
 use Rattle.service_lawful.specs.Consistent.{IsConsistent, is_open}
 use Rattle.service_step.specs.Causes.{IsRefusedFor, is_cause, sees}
@@ -47,12 +47,6 @@ dead-noticed s p c x (Sends bytes xs) is =
     dead-first ((s.ends x).noticed ≡ true) (send_causes (sees p s.ends) x xs) (inl refl, (inl refl, (inr (λ b. b), (inl refl, (inl refl, (inl refl, (inl refl, tt))))))) is
 dead-noticed s p c x Receives is = dead-first ((s.ends x).noticed ≡ true) (receive_causes (sees p s.ends x)) (inl refl, (inl refl, (inr (λ b. b), tt))) is
 dead-noticed s p c x (Cancels w) is = dead-first ((s.ends x).noticed ≡ true) (cancel_causes w (sees p s.ends x)) (inl refl, (inr (λ b. b), (inl refl, (inl refl, tt)))) is
-
-destroyed-as : (at : Place) → is_destroyed at ≡ true → at ≡ place.Destroyed
-destroyed-as place.Destroyed is = refl
-destroyed-as (place.Owned p) is = absurd (true≢false (sym is))
-destroyed-as (place.InMessage f i) is = absurd (true≢false (sym is))
-destroyed-as place.Unmade is = absurd (true≢false (sym is))
 
 -- an end that was made and lives no more is destroyed
 made-gone : (at : Place) → is_made at ≡ true → is_living at ≡ false → at ≡ place.Destroyed
@@ -103,12 +97,12 @@ cancel-death s (step.Notice e dead) t x k is told = by (end_eq x e) refl told
   where
     by : (b : Bool) → end_eq x e ≡ b → (if b && dead then Some (answer.Refused cause.Dead) else None) ≡ Some (answer.Refused cause.Dead) → IsGone t x ⊎ IsGone t (opposite x)
     by true same told =
-        inr (subst (λ z. IsGone t (opposite z)) (sym (end_eq-same x e same)) (goes s _ t k is (opposite e) (destroyed-as (s.ends (opposite e)).place (and-true _ _ (and-true _ _ (and-true _ _ is.allowed).0).0).0)))
+        inr (subst (λ z. IsGone t (opposite z)) (sym (end_eq-same x e same)) (goes s _ t k is (opposite e) (destroyed-is (s.ends (opposite e)).place (and-true _ _ (and-true _ _ (and-true _ _ is.allowed).0).0).0)))
     by false apart told = absurd (none-some None (answer.Refused cause.Dead) refl told)
 cancel-death s (step.Back e n dead) t x k is told = by (end_eq x e) refl told
   where
     either : (b : Bool) → is_destroyed (s.ends (opposite e)).place ≡ b → b || (s.ends (opposite e)).noticed ≡ true → IsGone t e ⊎ IsGone t (opposite e)
-    either true gone may = inr (goes s _ t k is (opposite e) (destroyed-as (s.ends (opposite e)).place gone))
+    either true gone may = inr (goes s _ t k is (opposite e) (destroyed-is (s.ends (opposite e)).place gone))
     either false not noticed = inl (goes s _ t k is e (subst (IsGone s) (opposite-opposite e) (k.noticed.opposite (opposite e) noticed)))
 
     by : (b : Bool) → end_eq x e ≡ b → (if b && dead then Some (answer.Refused cause.Dead) else None) ≡ Some (answer.Refused cause.Dead) → IsGone t x ⊎ IsGone t (opposite x)

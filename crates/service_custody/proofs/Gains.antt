@@ -13,7 +13,7 @@ use Rattle.service_change.proofs.Counts.{pid_tells}
 use Rattle.service_change.proofs.Facts.{put_process-at, put_process-other, wakes-woken}
 use Rattle.service_custody.specs.Moves.{given_to}
 use Rattle.service_step.specs.Ends.{matched_message, owner, waiting_message}
-use Rattle.service_step.specs.State.{State, Process, ends_process, gains, given, later, no_process, put_process, send_report, tells, turns, wakes}
+use Rattle.service_step.specs.State.{State, Process, ends_process, gains, given, later, no_process, put_process, send_report, tells, turns}
 use Rattle.service_step.specs.Steps.{IsServiceStep, after_cancel, dead_reports, done_reports, gains_owner, returned_reports, wakes_owner}
 use Rattle.service_step.specs.declared.state.Phase.{Phase}
 use Rattle.service_step.specs.declared.state.Phase.TheVariants as phase

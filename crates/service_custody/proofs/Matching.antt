@@ -1,9 +1,8 @@
 -- A message that is matched is so with the receive of its opposite: at the start, and after each step.
-use Rattle.std.proofs.Common.{◌≡◌, ℕ, Bool, true, false, true≢false, inl, inr, List, [], ◌∷◌, refl, sym, ap, subst, ◌∙◌}
+use Rattle.std.proofs.Common.{◌≡◌, ℕ, false, true≢false, inl, inr, [], ◌∷◌, sym, ap, subst, ◌∙◌}
 use Rattle.charlotte_calls.specs.Names.{opposite}
 use Rattle.charlotte_calls.specs.Setting.{IsValid}
 use Rattle.charlotte_calls.specs.declared.calls.ServiceStep.{ServiceStep}
-use Rattle.charlotte_calls.specs.declared.calls.ServiceStep.TheVariants as step
 use Rattle.charlotte_calls.specs.declared.names.EndId.{EndId}
 use Rattle.charlotte_calls.specs.declared.setting.Setting.{Setting}
 use Rattle.service_change.proofs.Change.{idle-parts}
@@ -12,7 +11,7 @@ use Rattle.service_consistent.proofs.Starts.{start-idle}
 use Rattle.service_custody.proofs.Turns.{Turn, frees, gets, marked, match-its, meets, starts, stays, tells, turn, withdraws}
 use Rattle.service_custody.specs.Coming.{AreMatched}
 use Rattle.service_lawful.specs.Consistent.{IsConsistent}
-use Rattle.service_runs.proofs.Moves.{HasNumbers, Move, completed, matched, number-its, over, sent, still, taken}
+use Rattle.service_runs.proofs.Moves.{Move, completed, matched, number-its, over, sent, still, taken}
 use Rattle.service_runs.proofs.MovesOfSteps.{move}
 use Rattle.service_step.specs.Lawful.{take_number}
 use Rattle.service_step.specs.Run.{start_state}
@@ -23,7 +22,6 @@ use Rattle.service_step.specs.declared.state.Inward.TheVariants as inward
 use Rattle.service_step.specs.declared.state.Message.{Message}
 use Rattle.service_step.specs.declared.state.Outward.{Outward}
 use Rattle.service_step.specs.declared.state.Outward.TheVariants as outward
-use Rattle.service_step.specs.declared.state.Place.TheVariants as place
 use Rattle.service_streams.proofs.Places.{IsGone, gone-stays}
 
 -- a send that is matched is not one of these

@@ -1,5 +1,5 @@
 -- Where each step brings an end, and with which report.
-use Rattle.std.proofs.Common.{◌≡◌, ◌≢◌, ℕ, ◌+◌, ◌≤◌, Bool, true, false, true≢false, nat_eq, ◌||◌, not, ◌⊎◌, inl, inr, if◌then◌else◌, Option, Some, None, List, [], ◌∷◌, ◌++◌, append-nil, refl, sym, ap, subst, ◌∙◌, arith}
+use Rattle.std.proofs.Common.{◌≡◌, ℕ, ◌+◌, ◌≤◌, Bool, true, false, true≢false, nat_eq, ◌||◌, not, ◌⊎◌, inl, inr, if◌then◌else◌, Option, Some, None, List, [], ◌∷◌, ◌++◌, append-nil, refl, sym, ap, subst, ◌∙◌, arith}
 use Rattle.std.proofs.lemmas.Grind.{flat_map-append}
 use Rattle.std.specs.List.{list_any}
 use Rattle.charlotte_calls.proofs.Causes.{AllFail, none-fails}
@@ -19,7 +19,7 @@ use Rattle.service_change.proofs.Counts.{and-true}
 use Rattle.service_change.proofs.EndEq.{among, among-Contains, end_eq-refl, end_eq-same, end_eq-sym, places-among, places-other, put-at, put-other, puts-at}
 use Rattle.service_change.proofs.Facts.{made-owned, not-false, owned_by-Owned, owner-Owned, running-owner}
 use Rattle.service_custody.proofs.Gains.{Gain, adds, ended, gain, gained, to_each}
-use Rattle.service_custody.proofs.Turns.{new-unmade}
+use Rattle.service_custody.proofs.Turns.{destroyed-is, new-unmade}
 use Rattle.service_custody.specs.Moves.{Moves, Ends, Lands, Leaves, Makes, Stays, brings, enclosed_in, gives, given_to, how_often}
 use Rattle.service_lawful.specs.Consistent.{IsConsistent}
 use Rattle.service_runs.proofs.Moves.{puts-apart, puts-either}
@@ -34,7 +34,6 @@ use Rattle.service_step.specs.declared.state.Message.{Message}
 use Rattle.service_step.specs.declared.state.Outward.{Outward}
 use Rattle.service_step.specs.declared.state.Outward.TheVariants as outward
 use Rattle.service_step.specs.declared.state.Phase.TheVariants as phase
-use Rattle.service_step.specs.declared.state.Place.{Place}
 use Rattle.service_step.specs.declared.state.Place.TheVariants as place
 use Rattle.service_streams.specs.Streams.{cancels_send}
 
@@ -119,12 +118,6 @@ puts-place e y t q same = by (end_eq q e) refl
     by : (b : Bool) → end_eq q e ≡ b → (puts e y t q).place ≡ (t q).place
     by true one = subst (λ z. (puts e y t z).place ≡ (t z).place) (sym (end_eq-same q e one)) (its (puts-either e y t))
     by false apart = ap (λ z. z.place) (puts-apart e q y t apart)
-
-destroyed-is : (at : Place) → is_destroyed at ≡ true → at ≡ place.Destroyed
-destroyed-is place.Destroyed is = refl
-destroyed-is (place.Owned p) is = absurd (true≢false (sym is))
-destroyed-is (place.InMessage f n) is = absurd (true≢false (sym is))
-destroyed-is place.Unmade is = absurd (true≢false (sym is))
 
 -- destroy: an end is destroyed as the one, or with its message, or stays
 destroys-one : (t : EndId → End) (e q : EndId) → is_made (t e).place ≡ true → (among q (carried_by (waiting_message (t e).outward)) ≡ true → is_made (t q).place ≡ true)

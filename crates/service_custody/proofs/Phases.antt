@@ -1,5 +1,5 @@
 -- In which phase each step leaves a process.
-use Rattle.std.proofs.Common.{◌≡◌, ◌≢◌, ℕ, Bool, true, false, true≢false, nat_eq, ◌&&◌, not, is_some, ◌⊎◌, inl, inr, if◌then◌else◌, Option, Some, None, List, [], ◌++◌, refl, sym, ap, subst, ◌∙◌}
+use Rattle.std.proofs.Common.{◌≡◌, ◌≢◌, ℕ, Bool, true, false, true≢false, nat_eq, ◌&&◌, not, is_some, ◌⊎◌, inl, inr, if◌then◌else◌, Option, Some, None, List, ◌++◌, refl, sym, ap, subst, ◌∙◌}
 use Rattle.charlotte_calls.specs.Names.{opposite}
 use Rattle.charlotte_calls.specs.declared.calls.Answer.{Answer}
 use Rattle.charlotte_calls.specs.declared.calls.Answer.TheVariants as answer
@@ -9,11 +9,10 @@ use Rattle.charlotte_calls.specs.declared.calls.ServiceStep.{ServiceStep}
 use Rattle.charlotte_calls.specs.declared.calls.ServiceStep.TheVariants as step
 use Rattle.charlotte_calls.specs.declared.names.EndId.{EndId}
 use Rattle.charlotte_calls.specs.declared.names.Pid.{Pid}
-use Rattle.charlotte_calls.specs.declared.names.Way.{Way}
 use Rattle.charlotte_calls.specs.declared.names.Way.TheVariants as way
 use Rattle.service_change.proofs.Counts.{and-true, pid_tells}
 use Rattle.service_change.proofs.EndEq.{end_eq-refl, end_eq-same, end_eq-sym, opposite-opposite}
-use Rattle.service_change.proofs.Facts.{owner-Owned, put_process-at, put_process-other, running-is, running-owner, waiting-is}
+use Rattle.service_change.proofs.Facts.{owner-Owned, put_process-at, put_process-other, running-is, waiting-is}
 use Rattle.service_consistent.proofs.StepsOfMessages.{take-owned}
 use Rattle.service_custody.specs.Phases.{ArePhases, next_phase, turned_by, unless_answered}
 use Rattle.service_lawful.specs.Consistent.{IsConsistent}
@@ -22,7 +21,6 @@ use Rattle.service_step.specs.State.{State, Process, ends_process, gains, given,
 use Rattle.service_step.specs.Steps.{IsServiceStep, after_cancel, agree, dead_reports, done_reports, gains_owner, is_running_owner, returned_reports, wakes_owner}
 use Rattle.service_step.specs.declared.state.Phase.{Phase}
 use Rattle.service_step.specs.declared.state.Phase.TheVariants as phase
-use Rattle.service_step.specs.declared.state.Place.{Place}
 use Rattle.service_step.specs.declared.state.Place.TheVariants as place
 use Rattle.told_answers.specs.Told.{cancel_in, report_in}
 

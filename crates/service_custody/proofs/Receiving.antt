@@ -1,7 +1,6 @@
 -- When a receive starts, and when it is over.
-use Rattle.std.proofs.Common.{◌≡◌, ℕ, Bool, true, false, true≢false, ◌&&◌, ◌⊎◌, inl, inr, if◌then◌else◌, Option, Some, None, refl, sym, ap, subst, ◌∙◌}
+use Rattle.std.proofs.Common.{◌≡◌, ℕ, Bool, true, false, ◌&&◌, ◌⊎◌, inl, inr, if◌then◌else◌, Some, None, refl, sym, ap, subst, ◌∙◌}
 use Rattle.charlotte_calls.specs.Names.{opposite}
-use Rattle.charlotte_calls.specs.declared.calls.Answer.{Answer}
 use Rattle.charlotte_calls.specs.declared.calls.Answer.TheVariants as answer
 use Rattle.charlotte_calls.specs.declared.calls.Cause.{Cause}
 use Rattle.charlotte_calls.specs.declared.calls.Cause.TheVariants as cause
@@ -26,9 +25,6 @@ use Rattle.told_answers.specs.Told.{cancel_in}
 not-ok : (b : Bool) (c : Cause) → (if b then Some (answer.Refused c) else None) ≡ Some answer.Ok → ⊥
 not-ok true c is = cc
 not-ok false c is = none-some None answer.Ok refl is
-
-none-ok : (o : Option Answer) → o ≡ None → o ≡ Some answer.Ok → ⊥
-none-ok o a b = none-some o answer.Ok a b
 
 -- a receive that is answered Ok to its Cancel is idle
 pub cancelled-idle : (s : State) (made : ServiceStep) (t : State) (x : EndId) → IsConsistent s → IsServiceStep s made t → cancel_in x made ≡ Some answer.Ok → (t.ends x).inward ≡ inward.Idle

@@ -1,5 +1,5 @@
 -- What the owner of an end is told of messages: by the report that a step gives, and by those that stand before and after it.
-use Rattle.std.proofs.Common.{◌≡◌, ◌≢◌, ℕ, zero, suc, ◌+◌, ◌≤◌, Bool, true, false, true≢false, nat_eq, ◌&&◌, ◌⊎◌, inl, inr, if◌then◌else◌, Option, Some, None, List, [], ◌∷◌, ◌++◌, append-nil, Contains, refl, sym, ap, subst, ◌∙◌, arith}
+use Rattle.std.proofs.Common.{◌≡◌, ◌≢◌, ℕ, Bool, true, false, true≢false, nat_eq, ◌&&◌, ◌⊎◌, inl, inr, if◌then◌else◌, Option, Some, None, List, [], ◌∷◌, ◌++◌, append-nil, Contains, refl, sym, ap, subst, ◌∙◌, arith}
 use Rattle.std.proofs.lemmas.Grind.{flat_map-append}
 use Rattle.charlotte_calls.specs.Names.{opposite}
 use Rattle.charlotte_calls.specs.declared.calls.Report.{Report}
@@ -11,12 +11,11 @@ use Rattle.charlotte_calls.specs.declared.names.Outcome.TheVariants as outcome
 use Rattle.charlotte_calls.specs.declared.names.Pid.{Pid}
 use Rattle.charlotte_calls.specs.declared.names.Way.{Way}
 use Rattle.charlotte_calls.specs.declared.names.Way.TheVariants as way
-use Rattle.service_change.proofs.Change.{idle-parts}
 use Rattle.service_change.proofs.Counts.{and-true, count-Contains, pid_tells}
-use Rattle.service_change.proofs.EndEq.{end_eq-refl, end_eq-same}
+use Rattle.service_change.proofs.EndEq.{end_eq-same}
 use Rattle.service_change.proofs.Facts.{busy-away, busy-inward, busy-made}
 use Rattle.service_consistent.proofs.Laws.{consistent_after}
-use Rattle.service_consistent.proofs.StepsOfMessages.{take-inward, take-matched, take-owned}
+use Rattle.service_consistent.proofs.StepsOfMessages.{take-inward, take-matched}
 use Rattle.service_custody.proofs.Gains.{Gain, adds, ended, gain, gained, to_each}
 use Rattle.service_custody.proofs.Turns.{report-its}
 use Rattle.service_custody.specs.Coming.{reported_to}
@@ -26,9 +25,7 @@ use Rattle.service_step.specs.Ends.{end_eq, is_idle, is_living, is_started_inwar
 use Rattle.service_step.specs.State.{State, dead_receive_report, receive_report, send_report}
 use Rattle.service_step.specs.Steps.{IsServiceStep, dead_reports, done_reports, returned_reports}
 use Rattle.service_step.specs.declared.state.End.{End}
-use Rattle.service_step.specs.declared.state.Inward.TheVariants as inward
 use Rattle.service_step.specs.declared.state.Message.{Message}
-use Rattle.service_step.specs.declared.state.Outward.TheVariants as outward
 use Rattle.service_step.specs.declared.state.Place.{Place}
 use Rattle.service_step.specs.declared.state.Place.TheVariants as place
 use Rattle.service_streams.proofs.Pending.{IsDue, reports-stay, take-stands}

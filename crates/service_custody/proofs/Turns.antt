@@ -14,13 +14,13 @@ use Rattle.charlotte_calls.specs.Causes.{receive_causes}
 use Rattle.service_change.proofs.Counts.{and-true}
 use Rattle.service_change.proofs.Change.{living-made}
 use Rattle.service_change.proofs.EndEq.{end_eq-same, opposite-apart, opposite-opposite, put-at, put-other, puts-at}
-use Rattle.service_change.proofs.Facts.{busy-inward, busy-made, busy-outward, made-owned, matched_with-Matched, not-false, not-true, owner-Owned, posted-Posted, withdrawn-Withdrawn}
+use Rattle.service_change.proofs.Facts.{busy-inward, busy-made, busy-outward, made-owned, not-false, not-true, owner-Owned, posted-Posted, withdrawn-Withdrawn}
 use Rattle.service_consistent.proofs.StepsOfDeaths.{return-matched}
 use Rattle.service_consistent.proofs.StepsOfMessages.{take-inward}
 use Rattle.service_lawful.specs.Consistent.{IsConsistent, is_over}
 use Rattle.service_runs.proofs.Moves.{puts-apart}
 use Rattle.service_step.specs.Causes.{sees}
-use Rattle.service_step.specs.Ends.{end_eq, carried_by, destroys, destroys_each, destroys_owned, dropped, fresh, idles, is_destroyed, is_idle_inward, is_made, is_owned_by, is_unreported_inward, makes, matched_message, matched_outward, matches, noticed_end, noticed_inward, notices, owner, places, put, puts, returned_end, returns, starts_send, takes, to_owner, turns_inward, turns_outward, unmade, waiting_message, withdraws_send}
+use Rattle.service_step.specs.Ends.{end_eq, carried_by, destroys, destroys_each, destroys_owned, dropped, fresh, idles, is_destroyed, is_idle_inward, is_made, is_owned_by, is_unreported_inward, makes, matched_message, matched_outward, matches, noticed_end, noticed_inward, notices, owner, places, put, puts, returns, starts_send, takes, to_owner, turns_inward, turns_outward, unmade, waiting_message, withdraws_send}
 use Rattle.service_step.specs.State.{State, next_link}
 use Rattle.service_step.specs.Steps.{IsServiceStep, after_cancel, is_new_pair, may_receive_as}
 use Rattle.service_step.specs.declared.state.End.{End}
@@ -96,6 +96,14 @@ makes-hears p a b t q at_a at_b = by (end_eq b q) refl (end_eq a q) refl
         ap hears_of (put-other u b (fresh (place.Owned p)) q apart)
         ∙ subst (λ z. hears_of (put t a (fresh (place.Owned p)) z) ≡ hears_of (t z)) (end_eq-same a q same) (ap hears_of (put-at t a (fresh (place.Owned p))) ∙ sym (ap hears_of at_a))
     by false apart false neither = ap hears_of (put-other u b (fresh (place.Owned p)) q apart ∙ put-other t a (fresh (place.Owned p)) q neither)
+
+-- places
+
+pub destroyed-is : (at : Place) → is_destroyed at ≡ true → at ≡ place.Destroyed
+destroyed-is place.Destroyed is = refl
+destroyed-is (place.Owned p) is = absurd (true≢false (sym is))
+destroyed-is (place.InMessage f n) is = absurd (true≢false (sym is))
+destroyed-is place.Unmade is = absurd (true≢false (sym is))
 
 unmade-is : (s : State) (e : EndId) → IsConsistent s → is_made (s.ends e).place ≡ false → s.ends e ≡ unmade
 unmade-is s e k not = k.kept.unmade e (by (s.ends e).place not)
@@ -173,8 +181,8 @@ match-its s e n t k is =
     let u = puts e (record (s.ends e) { outward = matched_outward (s.ends e).outward }) s.ends in
     let same : u (opposite e) ≡ s.ends (opposite e) = puts-apart e (opposite e) (record (s.ends e) { outward = matched_outward (s.ends e).outward }) s.ends (opposite-apart e) in (
       ap (λ z. hears_of (z.ends (opposite e))) is.after
-      ∙ ap hears_of (puts-at (opposite e) (record (u (opposite e)) { inward = inward.Matched n }) u (ap (λ z. is_made z.place) same ∙ busy-is s (opposite e) inward.Posted k posted posted-busy))
-      ∙ ap (λ (z : End). hears_of (record z { inward = inward.Matched n })) same,
+          ∙ ap hears_of (puts-at (opposite e) (record (u (opposite e)) { inward = inward.Matched n }) u (ap (λ z. is_made z.place) same ∙ busy-is s (opposite e) inward.Posted k posted posted-busy))
+          ∙ ap (λ (z : End). hears_of (record z { inward = inward.Matched n })) same,
       posted,
     )
 
