@@ -1,8 +1,7 @@
 -- Where a step of the service brings an end, and with which report.
-use Rattle.std.specs.Prelude.{◌≡◌, ◌⊎◌, ℕ, ◌+◌, ◌≤◌, nat_eq, Bool, true, if◌then◌else◌, List, [], ◌∷◌, flat_map, Option, Some, None, ⊤}
+use Rattle.std.specs.Prelude.{◌≡◌, ◌⊎◌, ℕ, ◌+◌, ◌≤◌, nat_eq, if◌then◌else◌, List, [], ◌∷◌, flat_map}
 use Rattle.std.specs.List.{Contains}
 use Rattle.charlotte_calls.specs.EndEq.{end_eq}
-use Rattle.charlotte_calls.specs.Names.{opposite}
 use Rattle.charlotte_calls.specs.declared.calls.Report.{Report}
 use Rattle.charlotte_calls.specs.declared.calls.ServiceStep.{ServiceStep}
 use Rattle.charlotte_calls.specs.declared.calls.ServiceStep.TheVariants as step
@@ -34,10 +33,13 @@ gives q x made = how_often x (enclosed_in (given_to q made))
 
 -- what a step does with an end
 pub data Moves (s : State) (made : ServiceStep) (t : State) (x : EndId) : Type 0 where
-  -- it stays, and a report that brings it may be given
-  Stays : (t.ends x).place ≡ (s.ends x).place → ((q : Pid) → brings t q x + gives q x made ≡ brings s q x) → Moves s made t x
+  -- it stays, and a report that brings it may be given. The reports of a process go as it ends
+  Stays : (t.ends x).place ≡ (s.ends x).place
+      → ((q : Pid) → (brings t q x + gives q x made ≡ brings s q x) ⊎ ((made ≡ step.Exit q) × (brings t q x ≡ 0)))
+      → Moves s made t x
   -- it is made
-  Makes : (p : Pid) (a b : EndId) → made ≡ step.Make p a b → (x ≡ a) ⊎ (x ≡ b) → (s.ends x).place ≡ place.Unmade → (t.ends x).place ≡ place.Owned p
+  Makes : (p : Pid) (a b : EndId) → made ≡ step.Make p a b → (x ≡ a) ⊎ (x ≡ b)
+      → (s.ends x).place ≡ place.Unmade → (t.ends x).place ≡ place.Owned p
       → ((q : Pid) → brings t q x ≡ brings s q x) → Moves s made t x
   -- its owner sends it
   Leaves : (p : Pid) (e : EndId) (n : ℕ) (bytes : List ℕ) (xs : List EndId) → made ≡ step.Send e n bytes xs → Contains xs x
@@ -48,5 +50,6 @@ pub data Moves (s : State) (made : ServiceStep) (t : State) (x : EndId) : Type 0
       → ((q : Pid) → brings t q x ≡ brings s q x + (if nat_eq p.0 q.0 then 1 else 0)) → ((q : Pid) → gives q x made ≡ 0) → Moves s made t x
   -- it is destroyed: by its owner, or with the message in which it is
   Ends : (t.ends x).place ≡ place.Destroyed
-      → (made ≡ step.Destroy x) ⊎ ((p : Pid) × (made ≡ step.Exit p) × ((s.ends x).place ≡ place.Owned p)) ⊎ ((e : EndId) × (n : ℕ) × ((s.ends x).place ≡ place.InMessage e n))
+      → (made ≡ step.Destroy x) ⊎ ((p : Pid) × (made ≡ step.Exit p) × ((s.ends x).place ≡ place.Owned p))
+      ⊎ ((e : EndId) × (n : ℕ) × ((s.ends x).place ≡ place.InMessage e n))
       → ((q : Pid) → brings t q x ≤ brings s q x) → Moves s made t x

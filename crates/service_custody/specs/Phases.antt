@@ -1,9 +1,8 @@
 -- In which phase a step of the service leaves a process.
-use Rattle.std.specs.Prelude.{◌≡◌, nat_eq, Bool, true, false, if◌then◌else◌, Option, Some, None}
+use Rattle.std.specs.Prelude.{◌≡◌, nat_eq, if◌then◌else◌, Option, Some, None}
 use Rattle.charlotte_calls.specs.declared.calls.Answer.{Answer}
 use Rattle.charlotte_calls.specs.declared.calls.ServiceStep.{ServiceStep}
 use Rattle.charlotte_calls.specs.declared.calls.ServiceStep.TheVariants as step
-use Rattle.charlotte_calls.specs.declared.names.EndId.{EndId}
 use Rattle.charlotte_calls.specs.declared.names.Pid.{Pid}
 use Rattle.charlotte_calls.specs.declared.names.Way.TheVariants as way
 use Rattle.service_step.specs.Ends.{is_owned_by}

@@ -30,8 +30,8 @@ pub fn matches_stay()
 
 /// What a step tells of an end is the first message that was coming there, and what it sends comes behind all others.
 pub fn messages_come_in_order()
-    ensures { (s : State) (made : AStep) (t : State) (x : EndId) → IsConsistent s → AreMatched s → cancels_send (opposite x) made ≡ false → IsServiceStep s made t
-        → ComesSo s made t x }
+    ensures { (s : State) (made : AStep) (t : State) (x : EndId) → IsConsistent s → AreMatched s → cancels_send (opposite x) made ≡ false
+        → IsServiceStep s made t → ComesSo s made t x }
 {}
 
 /// Where the opposite end is destroyed and no receive is started, nothing comes.
@@ -42,8 +42,8 @@ pub fn deaf_ends_get_nothing()
 
 /// Where a step brings an end, and with which report.
 pub fn each_end_moves()
-    ensures { (s : State) (made : AStep) (t : State) (x : EndId) → IsConsistent s → ((e : EndId) → cancels_send e made ≡ false) → IsServiceStep s made t
-        → Moves s made t x }
+    ensures { (s : State) (made : AStep) (t : State) (x : EndId) → IsConsistent s → ((e : EndId) → cancels_send e made ≡ false)
+        → IsServiceStep s made t → Moves s made t x }
 {}
 
 /// In which phase a step leaves each process.

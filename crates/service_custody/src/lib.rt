@@ -9,4 +9,7 @@
 
 mod law;
 
-pub use law::{deaths_are_true, deaf_ends_get_nothing, matches_stay, messages_come_in_order, processes_go_on, receives_are_told, start_is_matched, each_end_moves};
+pub use law::{
+    deaf_ends_get_nothing, deaths_are_true, each_end_moves, matches_stay, messages_come_in_order,
+    processes_go_on, receives_are_told, start_is_matched,
+};

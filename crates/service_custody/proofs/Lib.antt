@@ -1,0 +1,9 @@
+pub mod Turns
+pub mod Gains
+pub mod Moving
+pub mod Matching
+pub mod Telling
+pub mod Coming
+pub mod Receiving
+pub mod Deaths
+pub mod Phases
