@@ -11,7 +11,7 @@ use Rattle.charlotte_calls.specs.declared.calls.ServiceStep.{ServiceStep}
 use Rattle.charlotte_calls.specs.declared.calls.ServiceStep.TheVariants as step
 use Rattle.charlotte_calls.specs.declared.names.EndId.{EndId}
 use Rattle.charlotte_calls.specs.declared.names.Pid.{Pid}
-use Rattle.charlotte_calls.specs.declared.names.Way.TheVariants as way
+use Rattle.charlotte_calls.specs.declared.names.Way.{Way}
 use Rattle.charlotte_calls.specs.declared.program.Next.{Next}
 use Rattle.charlotte_calls.specs.declared.program.Next.TheVariants as next
 use Rattle.charlotte_calls.specs.declared.setting.Setting.{Setting}
@@ -40,10 +40,10 @@ use Rattle.request_acts.proofs.Callers.{none-else, own-call}
 use Rattle.request_acts.proofs.Fleets.{asked_by, heard-here, heard-not, heard_by, set-other, set-self}
 use Rattle.followed_links.specs.Hearing.{owners, with_owner}
 use Rattle.followed_links.specs.Invariant.{Owners, Stands}
-use Rattle.followed_links.specs.Owners.{Asks, Over, Owner, Pends, Runs, Status, given_of, owner_of, status_of}
+use Rattle.followed_links.specs.Owners.{Asks, IsAskedFor, Owner, Status, given_of, owner_of, status_of}
 use Rattle.followed_links.specs.Steps.{HasBytes, IsFirst, IsMine, IsStepped, MayStep, after_step, owner_after}
 use Rattle.followed_links.proofs.Entries.{StepsKeep}
-use Rattle.followed_links.proofs.Calling.{AreIdle, below-or-above, calling-stands, same-owners, taking-stands}
+use Rattle.followed_links.proofs.Calling.{AreIdle, Begins, IsPrint, below-or-above, calling-stands, same-owners, steps-begin, taking-stands}
 use Rattle.followed_links.proofs.Passing.{IsOwnStep, weaves-step, weaves-uncalled}
 use Rattle.followed_links.proofs.Told.{called-told, given-is, hears-told, paused-given, paused-status}
 use Rattle.followed_links.proofs.Weaving.{AreWoven, adding, flushing, weaves-call, weaves-on}
@@ -90,6 +90,9 @@ steps-grow {home = home} (Takes n f e es ds g none acts) i = by (nat_eq (home i)
     by : (b : Bool) → nat_eq (home i) e.kernel ≡ b → (hears_entry home e f i).replayed.steps ≤ (g i).replayed.steps → (f i).replayed.steps ≤ (g i).replayed.steps
     by true here rest = let at = ap (λ (z : Acting). z.replayed.steps) (heard-here home e f i here) in omega (arith, rest, at)
     by false away rest = let at = ap (λ (z : Acting). z.replayed.steps) (heard-not home e f i away) in omega (arith, rest, at)
+
+only-made : (made m : ServiceStep) → made ∷ [] ≡ m ∷ [] → made ≡ m
+only-made made m e = cc
 
 -- ---- along the entries
 
@@ -364,3 +367,137 @@ module _ (g : Setting) (version count : ℕ) (counted : length g.homes ≡ count
             exits = λ q is_so. (let no : step.Wait p ≡ step.Exit q = sym (same-made (step.Wait p) so) ∙ is_so in cc);
           }
           own-of (call.Print l) at so = let no : made ∷ [] ≡ [] = so in absurd cc
+
+      not-outward : (b : Call) → IsAskedFor done.state (Asks b) → (made : ServiceStep) → IsOwn p b (made ∷ []) → (x : EndId) → cancels_send x made ≡ false
+      not-outward call.Make fits made so x = ap (cancels_send x) (only-made made (step.Make p so.0 so.1) so.2)
+      not-outward (call.Destroy on) fits made so x = ap (cancels_send x) (only-made made (step.Destroy on) so)
+      not-outward (call.Send on l xs) fits made so x = ap (cancels_send x) (only-made made (step.Send on so.0 l xs) so.1)
+      not-outward (call.Receive on) fits made so x = ap (cancels_send x) (only-made made (step.Receive on) so)
+      not-outward (call.Cancel on w) fits made so x =
+          ap (cancels_send x) (only-made made (step.Cancel on w) so) ∙ ap (λ (v : Way). cancels_send x (step.Cancel on v)) fits.1
+      not-outward call.Wait fits made so x = ap (cancels_send x) (only-made made (step.Wait p) so)
+      not-outward (call.Print l) fits made so x = let no : made ∷ [] ≡ [] = so in absurd cc
+      not-outward call.Exit fits made so x = ap (cancels_send x) (only-made made (step.Exit p) so)
+
+      fits : IsAskedFor done.state (Asks c)
+      fits = subst (λ (o : Owner). IsAskedFor o.state o.status) (ap (λ (b : Bool). if b then asker else owner_of (f p.0)) (eq-eqb p.0 p.0 refl)) (asked.owners.each p.0 below).asked
+
+      cancels-none : (made : ServiceStep) → IsFirst p.0 c made → (x : EndId) → cancels_send x made ≡ false
+      cancels-none made (inl refused) x = ap (cancels_send x) refused.1
+      cancels-none made (inr so) x = not-outward c fits made so x
+
+      -- the steps behind it are no process's call
+      woven-begun : Begins p.0 c e.entry.steps → AreWoven t since_after past_after deeds_now
+      woven-begun b = by-part part refl
+        where
+          by-part : (l : List (ServiceStep × Service)) → part ≡ l → AreWoven t since_after past_after deeds_now
+          by-part [] empty = let no : [] ≡ b.made ∷ b.more = sym (ap steps_in empty) ∙ entry.steps ∙ b.is in absurd cc
+          by-part (x ∷ l) full =
+              let both : x.0 ∷ steps_in l ≡ b.made ∷ b.more = sym (ap steps_in full) ∙ entry.steps ∙ b.is in
+              let head : x.0 ≡ b.made = cc in
+              let tail : steps_in l ≡ b.more = cc in
+              let run : IsServiceStep s x.0 x.1 × IsRunFrom x.1 l = subst (IsRunFrom s) full entry.run in
+              let one : IsServiceStep s b.made x.1 = subst (λ (m : ServiceStep). IsServiceStep s m x.1) head run.0 in
+              subst (λ (u : Service). AreWoven u since_after past_after deeds_now) (sym (ap (state_after s) full))
+              (weaves-uncalled moving.moves moving.consistent since_after past_after deeds_now p.0 quiet l x.1 (moving.consistent s b.made x.1 is.stands.owners.consistent one) run.1
+              (subst (λ (m : List ServiceStep). AllByRecursion IsUncalled m) (sym tail) b.uncalled)
+              (weaves-step moving.moves moving.consistent since_after past_after deeds_now p.0 quiet s b.made x.1 is.stands.owners.consistent (cancels-none b.made b.first) one (own-first b.made b.first) woven-first))
+
+      woven-after : AreWoven t since_after past_after deeds_now
+      woven-after =
+          ⊎_elim (λ (print : IsPrint c e.entry.steps). subst (λ (u : Service). AreWoven u since_after past_after deeds_now) (sym (nothing-left part (entry.steps ∙ print.2))) woven-first) woven-begun
+          (steps-begin p.0 c e.entry.steps of-entry.2)
+        where
+          nothing-left : (l : List (ServiceStep × Service)) → steps_in l ≡ [] → state_after s l ≡ s
+          nothing-left [] none = refl
+          nothing-left (x ∷ l) none = let no : x.0 ∷ steps_in l ≡ [] = none in absurd cc
+
+      since-later : (i : ℕ) → since_after i ≡ since_of later i
+      since-later i = by (nat_eq p.0 i) ∙ sym (since-same e (asked_by p given f) i)
+        where
+          by : (b : Bool) → (if b then [] else since_of f i) ≡ since_of (λ (j : ℕ). if b then called given (f p.0) else f j) i
+          by true = refl
+          by false = refl
+
+      other-one : (i : ℕ) → count ≤ i → nat_eq p.0 i ≡ false
+      other-one i above = by (nat_eq p.0 i) refl
+        where
+          by : (b : Bool) → nat_eq p.0 i ≡ b → b ≡ false
+          by true same = let q = eqb-true p.0 i same in absurd (omega (arith, q, below, above))
+          by false other = refl
+
+      -- what each is told
+      told-later : (i : ℕ) → IsTold (given_of (owner_of (later i)).status)
+      told-later i = by (nat_eq p.0 i) refl
+        where
+          its : IsTold (given_of (owner_of (later p.0)).status)
+          its =
+              subst (λ (z : Acting). IsTold (given_of (owner_of z).status))
+              (sym (heard-here (home_of g) e (asked_by p given f) p.0 here ∙ ap (heard_by p.0 e.entry) (set-self p (called given (f p.0)) f)))
+              (subst (λ (o : Option Call). IsTold (given_of (status_of (Some done.next) (hears_by p (f p.0).replayed.heard o e.entry.steps)))) (sym is_call)
+              (subst (λ (m : Next). IsTold (given_of (status_of (Some m) (hears_by p (f p.0).replayed.heard (Some c) e.entry.steps)))) (sym asking.asks)
+              (called-told p c c (f p.0).replayed.heard e.entry.steps range.entry.steps)))
+
+          by : (b : Bool) → nat_eq p.0 i ≡ b → IsTold (given_of (owner_of (later i)).status)
+          by true same = subst (λ (j : ℕ). IsTold (given_of (owner_of (later j)).status)) (eqb-true p.0 i same) its
+          by false other =
+              let same : asked_by p given f i ≡ f i = set-other p (called given (f p.0)) f i other in
+              told-so e (asked_by p given f) i
+              (subst (λ (z : Acting). IsTold (given_of (status_of z.replayed.last (hears_by (process i) z.replayed.heard (call_of (process i) e.entry.what) e.entry.steps)))) (sym same)
+              (hears-told (process i) (f i).replayed.last (f i).replayed.heard (call_of (process i) e.entry.what) e.entry.steps range.entry.steps (is.told i)))
+              (subst (λ (z : Acting). IsTold (given_of (owner_of z).status)) (sym same) (is.told i))
+
+      pub calls-follow : IsFollowing version count t (suc n) later past_after
+      calls-follow = record {
+        deeds = deeds_now;
+        stands = called-stands;
+        idle = λ i above. last-same e (asked_by p given f) i ∙ ap (λ (z : Acting). z.replayed.last) (set-other p (called given (f p.0)) f i (other-one i above)) ∙ is.idle i above;
+        silent = λ i above. since-same e (asked_by p given f) i ∙ ap (λ (z : Acting). z.since) (set-other p (called given (f p.0)) f i (other-one i above)) ∙ is.silent i above;
+        told = told-later;
+        woven = subst (λ (l : ℕ → List DeedOn). AreWoven t l past_after deeds_now) (same-since since_after (since_of later) since-later) woven-after;
+      }
+
+  -- ---- all entries
+
+  -- so it stands at the end
+  pub record Follows (f : Fleet) (past : List Done) : Type 0 where
+    pub service : Service
+    pub entries : ℕ
+    pub following : IsFollowing version count service entries f past
+
+  pub follows : {n : ℕ} {f l : Fleet} {es : List Placed} {ds : List Done} → Acts (home_of g) n f es ds l → (s : Service) (parts : List (List (ServiceStep × Service))) (past : List Done) → AreEntries g s es parts
+      → All IsPlacedInRange es → n + length es ≤ 2 ^ 28 → ((i : ℕ) → count ≤ i → (l i).replayed.steps ≡ 0) → IsFollowing version count s n f past → Follows l (past ++ ds)
+  follows (Rests n f) s parts past entries range few idle is = record { service = s; entries = n; following = subst (λ (l : List Done). IsFollowing version count s n f l) (sym (append-nil past)) is }
+  follows (Pauses n f p given es ds l pausing acts) s parts past entries range few idle is =
+      ⊎_elim
+      (λ (below : p.0 < count). follows acts s parts past entries range few idle (pauses-follow s n f past is (omega (arith, few)) p below given pausing))
+      (λ (above : count ≤ p.0).
+      let grow = steps-grow acts p.0 in
+      let at : (with_acting p (paused given (f p.0)) f p.0).replayed.steps ≡ (f p.0).replayed.steps + 1 = ap (λ (z : Acting). z.replayed.steps) (set-self p (paused given (f p.0)) f) in
+      let none = idle p.0 above in
+      absurd (omega (arith, grow, at, none)))
+      (below-or-above count p.0)
+  follows (Calls n f p given c e es ds l own call asking acts) s [] past entries range few idle is = absurd entries
+  follows (Calls n f p given c e es ds l own call asking acts) s (part ∷ parts) past entries range few idle is =
+      let room : n ≤ 2 ^ 28 = omega (arith, few) in
+      let one = calls-follow s n f past is e part entries.0 (All-head IsPlacedInRange e es range) room p given c own call asking in
+      subst (λ (all : List Done). Follows l all) (append_assoc past (done_by p n (deeds_before given (f p.0))) ds)
+      (follows acts (state_after s part) parts (past ++ done_by p n (deeds_before given (f p.0))) entries.1 (All-tail IsPlacedInRange e es range) (more-few n es few) idle
+      (subst (λ (k : ℕ). IsFollowing version count (state_after s part) k (hears_entry (home_of g) e (asked_by p given f)) (past ++ done_by p n (deeds_before given (f p.0)))) (one-more n) one))
+    where
+      one-more : (n : ℕ) → suc n ≡ n + 1
+      one-more n = omega arith
+
+      more-few : (n : ℕ) (es : List Placed) → n + length (e ∷ es) ≤ 2 ^ 28 → n + 1 + length es ≤ 2 ^ 28
+      more-few n es few = omega (arith, few)
+  follows (Takes n f e es ds l none acts) s [] past entries range few idle is = absurd entries
+  follows (Takes n f e es ds l none acts) s (part ∷ parts) past entries range few idle is =
+      let one = takes-follow s n f past is e part entries.0 (All-head IsPlacedInRange e es range) none in
+      follows acts (state_after s part) parts past entries.1 (All-tail IsPlacedInRange e es range) (more-few n es few) idle
+      (subst (λ (k : ℕ). IsFollowing version count (state_after s part) k (hears_entry (home_of g) e f) past) (one-more n) one)
+    where
+      one-more : (n : ℕ) → suc n ≡ n + 1
+      one-more n = omega arith
+
+      more-few : (n : ℕ) (es : List Placed) → n + length (e ∷ es) ≤ 2 ^ 28 → n + 1 + length es ≤ 2 ^ 28
+      more-few n es few = omega (arith, few)
