@@ -96,7 +96,7 @@ only-made made m e = cc
 
 -- ---- along the entries
 
-abbrev since_of : Fleet → ℕ → List DeedOn
+abbrev pub since_of : Fleet → ℕ → List DeedOn
 since_of f i = (f i).since
 
 -- so it stands after so many entries
