@@ -6,7 +6,7 @@ from legend import Item, legend_items
 from routes import TRACK, Gap, tracks_of
 from state import Arrow, opposite
 from texts import Line, cut, holder_label, lines_of, lines_of_all, short, wrapped
-from view import MOST_WIDE, Bundle, Group, View
+from view import MOST_WIDE, Group, View
 
 MARGIN, LEFT, RIGHT = 24, 58, 34
 LINE, PAD, GAP = 14, 5, 12

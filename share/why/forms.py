@@ -142,7 +142,7 @@ def call_in_full(line: bytes, head: Word, rest: list[Word]) -> Reason | None:
 
 
 def lead_fault(line: bytes, words: list[Word]) -> Reason:
-    return line_of_another_file(line) or other_comment(line) or other_process(line, words) or other_lead(line, words)
+    return line_of_another_file(line) or other_comment(line, rb"//|--|;|%|\"") or other_process(line, words) or other_lead(line, words)
 
 
 def line_of_another_file(line: bytes) -> Reason | None:
@@ -160,8 +160,9 @@ def line_of_another_file(line: bytes) -> Reason | None:
     return None
 
 
-def other_comment(line: bytes) -> Reason | None:
-    sign = re.match(rb"//|--|;|%|\"", line)
+def other_comment(line: bytes, signs: bytes) -> Reason | None:
+    """Of a line that begins with one of these signs of a comment in other languages."""
+    sign = re.match(signs, line)
     if sign:
         return Reason(0, sign.end(), "A comment begins with `#`.", b"# " + line[sign.end() :].lstrip())
     return None

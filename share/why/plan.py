@@ -3,12 +3,10 @@
 import re
 from dataclasses import dataclass, field
 
-from forms import is_skipped, numbers_fault, spacing_fault, whole_mend
+import script
+from forms import is_skipped, numbers_fault, other_comment, spacing_fault, whole_mend
 from nearest import nearest
 from reason import Reason, put
-from script import kernel, kernels, numbered, numbering, version
-from script import order_fault as header_order
-from script import process as wired
 from spelling import NUMBER, Word, is_above, number_fault, words_of
 
 HEADS = ("version", "kernels", "process", "wire")
@@ -20,14 +18,9 @@ NAME = re.compile(rb"[!-~]+")
 
 
 @dataclass
-class Given:
+class Given(script.Given):
     """What the lines before one say, each of which may stand there."""
 
-    kernels: int = 0
-    processes: int = 0
-    wires: int = 0
-    # the number of the first line of each kind
-    first: dict[bytes, int] = field(default_factory=dict)
     # the host of each process that moves, and the process that each host hosts
     host: dict[int, int] = field(default_factory=dict)
     hosted: dict[int, int] = field(default_factory=dict)
@@ -36,21 +29,12 @@ class Given:
 def given_by(lines: list[bytes]) -> Given:
     given = Given()
     for number, line in enumerate(lines, 1):
-        if is_skipped(line):
-            continue
         words = words_of(line)
-        kind = words[0].text
-        given.first.setdefault(kind, number)
-        if kind == b"kernels":
-            given.kernels = int(words[1].text)
-        elif kind == b"process":
-            if words[4].text == b"hosts":
-                moved = int(words[5].text)
-                given.host[moved] = given.processes
-                given.hosted[given.processes] = moved
-            given.processes += 1
-        elif kind == b"wire":
-            given.wires += 1
+        if script.kind_of(line) == b"process" and words[4].text == b"hosts":
+            moved = int(words[5].text)
+            given.host[moved] = given.processes
+            given.hosted[given.processes] = moved
+        script.give(given, number, line)
     return given
 
 
@@ -69,18 +53,12 @@ def plan_reason(data: bytes, number: int, rule: int) -> Reason | None:
         return params(line, lines)
     given = given_by(lines[: number - 1])
     if rule == 1:
-        return too_soon(line, given) or form_fault(line) or order_fault(line, given)
-    return {2: kernels, 3: numbering, 4: kernel, 5: process, 7: many_wires, 10: version, 11: host}[rule](line, words_of(line), given)
+        return script.too_soon(line, given, "plan") or form_fault(line) or order_fault(line, given)
+    rules = {2: script.kernels, 3: script.numbering, 4: script.kernel, 5: process, 7: many_wires, 10: script.version, 11: host}
+    return rules[rule](line, words_of(line), given)
 
 
 # ---- rule 1
-
-
-def too_soon(line: bytes, given: Given) -> Reason | None:
-    if is_skipped(line) and not given.kernels:
-        sentence = "The file ends, and no `kernels` line stood. A plan names its kernels first, as `kernels 2`."
-        return Reason(len(line), len(line) + 1, sentence, None if line else b"kernels 1")
-    return None
 
 
 def form_fault(line: bytes) -> Reason | None:
@@ -108,9 +86,9 @@ def lead_fault(line: bytes, first: Word) -> Reason:
         return Reason(0, len(line), "This is a line of a script, which `drive` performs. In a plan there are no calls: a process runs a module.")
     if line.startswith(b"module "):
         return Reason(0, len(line), "This is a line of a module. A plan names the file of a module, as `process 0 on 0 runs FILE`.")
-    sign = re.match(rb"//|--|;|%", line)
-    if sign:
-        return Reason(0, sign.end(), "A comment begins with `#`.", b"# " + line[sign.end() :].lstrip())
+    comment = other_comment(line, rb"//|--|;|%")
+    if comment:
+        return comment
     near = nearest(first.text.decode("latin-1"), HEADS)
     if near:
         return Reason(0, first.to, f"No line of a plan begins with {first}; the nearest word is `{near}`.", put(line, 0, first.to, near.encode()))
@@ -158,7 +136,7 @@ def part_fault(line: bytes, part: bytes, word: Word, named: str) -> Reason | Non
         mended = None if fault.written is None else put(line, word.at, word.to, fault.written)
         return Reason(fault.at, fault.to, f"{fault.sentence} The form of the line is {named}.", mended)
     if part == b"N" and is_above(word.text, MOST_CALLS):
-        return Reason(word.at, word.to, f"A process moves after {MOST_CALLS} calls at most.", numbered(line, word, MOST_CALLS))
+        return Reason(word.at, word.to, f"A process moves after {MOST_CALLS} calls at most.", script.numbered(line, word, MOST_CALLS))
     return None
 
 
@@ -166,7 +144,7 @@ def order_fault(line: bytes, given: Given) -> Reason | None:
     """Why a line of a good form may not stand here."""
     if line.startswith(b"process") and b"wire" in given.first:
         return Reason(0, len(b"process"), f"Processes stand before the wires. Put it before line {given.first[b'wire']}.")
-    return header_order(line, given)
+    return script.order_fault(line, given)
 
 
 # ---- the other rules
@@ -176,7 +154,7 @@ def process(line: bytes, words: list[Word], given: Given) -> Reason:
     if words[0].text == b"wire" and not given.processes:
         return Reason(words[1].at, words[1].to, "No process is declared. A line as `process 0 on 0 runs FILE` declares one.")
     if words[0].text == b"wire":
-        return wired(line, words, given)
+        return script.process(line, words, given)
     return Reason(words[5].at, words[5].to, f"Up to this line no process {words[5]} is declared.", advice="Let a process host an earlier one.")
 
 
@@ -203,7 +181,7 @@ def host(line: bytes, words: list[Word], given: Given) -> Reason:
         wrong = next(word for word in words[1:] if int(word.text) in given.hosted)
         moved = given.hosted[int(wrong.text)]
         sentence = f"Process {wrong} is a host. A wire names the process that moves, and its end moves with it."
-        return Reason(wrong.at, wrong.to, sentence, numbered(line, wrong, moved))
+        return Reason(wrong.at, wrong.to, sentence, script.numbered(line, wrong, moved))
     moved = int(words[5].text)
     if moved == given.processes:
         sentence = "A process does not host itself."

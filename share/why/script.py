@@ -32,19 +32,24 @@ def kind_of(line: bytes) -> bytes:
 def given_by(lines: list[bytes]) -> Given:
     given = Given()
     for number, line in enumerate(lines, 1):
-        if is_skipped(line):
-            continue
-        kind = kind_of(line)
-        given.first.setdefault(kind, number)
-        if kind == b"version":
-            given.version = int(words_of(line)[1].text)
-        elif kind == b"kernels":
-            given.kernels = int(words_of(line)[1].text)
-        elif kind == b"process":
-            given.processes += 1
-        elif kind == b"wire":
-            given.wires += 1
+        give(given, number, line)
     return given
+
+
+def give(given: Given, number: int, line: bytes) -> None:
+    """Adds what the line of this number says, which may stand there."""
+    if is_skipped(line):
+        return
+    kind = kind_of(line)
+    given.first.setdefault(kind, number)
+    if kind == b"version":
+        given.version = int(words_of(line)[1].text)
+    elif kind == b"kernels":
+        given.kernels = int(words_of(line)[1].text)
+    elif kind == b"process":
+        given.processes += 1
+    elif kind == b"wire":
+        given.wires += 1
 
 
 def script_reason(data: bytes, number: int, rule: int) -> Reason | None:
@@ -55,16 +60,17 @@ def script_reason(data: bytes, number: int, rule: int) -> Reason | None:
     given = given_by(lines[: number - 1])
     line = lines[number - 1]
     if rule == 1:
-        return too_soon(line, given) or form_fault(line, given.version) or order_fault(line, given)
+        return too_soon(line, given, "script") or form_fault(line, given.version) or order_fault(line, given)
     return {2: kernels, 3: numbering, 4: kernel, 5: process, 6: long_text, 7: many_wires, 10: version}[rule](line, words_of(line), given)
 
 
 # ---- rule 1
 
 
-def too_soon(line: bytes, given: Given) -> Reason | None:
+def too_soon(line: bytes, given: Given, text: str) -> Reason | None:
+    """Of the end of a text, a script or a plan."""
     if is_skipped(line) and not given.kernels:
-        sentence = "The file ends, and no `kernels` line stood. A script names its kernels first, as `kernels 2`."
+        sentence = f"The file ends, and no `kernels` line stood. A {text} names its kernels first, as `kernels 2`."
         return Reason(len(line), len(line) + 1, sentence, None if line else b"kernels 1")
     return None
 

@@ -1,5 +1,6 @@
 //! Tests of runs of nodes, one after the other and with a worker for each, through `start_nodes`, `run_serial`, `run_nodes`,
 //! `run_nodes_with` and `run_programs`: lists of calls on one kernel and on several. Each transcript, the merge of the nodes' journals, is read by `audit`.
+//! A plan is run through `lynx`.
 #![tactic(auto)]
 
 #[cfg(test)]
@@ -8,6 +9,8 @@ mod besides;
 mod gates;
 #[cfg(test)]
 mod nodes;
+#[cfg(test)]
+mod plans;
 #[cfg(test)]
 mod programs;
 #[cfg(test)]
