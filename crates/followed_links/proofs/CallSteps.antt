@@ -1,5 +1,5 @@
 -- Each step of a call keeps the invariant.
-use Rattle.std.proofs.Common.{◌≡◌, ◌⊎◌, inl, inr, ℕ, ◌+◌, ◌≤◌, ◌<◌, nat_eq, Bool, true, false, true≢false, if◌then◌else◌, Some, None, Ok, List, [], ◌∷◌, ◌++◌, refl, sym, ap, subst, ◌∙◌, arith}
+use Rattle.std.proofs.Common.{◌≡◌, ◌⊎◌, inl, inr, ℕ, ◌≤◌, ◌<◌, nat_eq, Bool, true, false, true≢false, if◌then◌else◌, Some, None, Ok, List, [], ◌∷◌, ◌++◌, refl, sym, ap, subst, ◌∙◌, arith}
 use Rattle.std.specs.List.{Contains}
 use Rattle.charlotte_calls.specs.Names.{opposite}
 use Rattle.charlotte_calls.specs.declared.calls.Answer.TheVariants as answer
@@ -43,7 +43,7 @@ use Rattle.followed_links.specs.Hearing.{told_of, with_owner}
 use Rattle.followed_links.specs.Invariant.{AreSpelled, HasReceive, IsFollowedTo, IsInOnePlace, IsOwned, IsOwner, IsSide, IsSideAt, IsStandingIn, IsToldTrue, Owners, Stands, told_to}
 use Rattle.followed_links.specs.Owners.{Asks, IsAskedFor, Owner, Status, Told, given_of, seen_of, turn_of}
 use Rattle.followed_links.proofs.Callers.{with}
-use Rattle.followed_links.proofs.CallSides.{alive, asked, consistent, its, moved, other-goes, other-goes-on, own, own-goes, own-goes-on, quiet, step-owned, step_on}
+use Rattle.followed_links.proofs.CallSides.{alive, asked, its, moved, other-goes, other-goes-on, own, own-goes, own-goes-on, quiet, step-owned, step_on}
 use Rattle.followed_links.proofs.Courses.{Turned, follows-back, follows-on}
 use Rattle.followed_links.proofs.Custody.{same-owner}
 use Rattle.followed_links.proofs.HeardSides.{none-given}

@@ -11,10 +11,8 @@ use Rattle.charlotte_calls.specs.declared.names.EndId.{EndId}
 use Rattle.charlotte_calls.specs.declared.names.Way.TheVariants as way
 use Rattle.service_change.proofs.Counts.{pid_tells}
 use Rattle.service_lawful.specs.Consistent.{IsConsistent}
-use Rattle.service_step.specs.Ends.{unmade}
 use Rattle.service_step.specs.State.{State as Service}
 use Rattle.service_step.specs.Steps.{IsServiceStep}
-use Rattle.service_step.specs.declared.state.Inward.{Inward}
 use Rattle.service_custody.specs.Moves.{enclosed_in, gives, how_often}
 use Rattle.entry_steps.specs.Entries.{IsUncalled}
 use Rattle.process_run.specs.States.{Asked, Gone, Holding, Keeps, State}

@@ -9,7 +9,6 @@ use Rattle.service_change.proofs.Counts.{pid_tells}
 use Rattle.service_lawful.specs.Consistent.{IsConsistent}
 use Rattle.service_step.specs.State.{State as Service}
 use Rattle.service_step.specs.Steps.{IsServiceStep}
-use Rattle.service_step.specs.declared.state.Message.{Message as Sent}
 use Rattle.service_step.specs.declared.state.Place.TheVariants as place
 use Rattle.service_streams.specs.Streams.{cancels_send, messages}
 use Rattle.service_streams.specs.Streams as streams

@@ -1,5 +1,5 @@
 -- The laws of the service's steps, and that with them each of its steps keeps the invariant.
-use Rattle.std.proofs.Common.{arith, ◌≡◌, ℕ, suc, ◌+◌, ◌*◌, ◌≤◌, ◌<◌, List, length, sym, subst}
+use Rattle.std.proofs.Common.{arith, ◌≡◌, ℕ, suc, List, subst}
 use Rattle.charlotte_calls.specs.Ranges.{AreBytes}
 use Rattle.charlotte_calls.specs.declared.calls.Call.{Call}
 use Rattle.charlotte_calls.specs.declared.calls.Call.TheVariants as call

@@ -15,11 +15,10 @@ use Rattle.charlotte_calls.specs.declared.names.Way.TheVariants as way
 use Rattle.service_change.proofs.Change.{idle-parts}
 use Rattle.service_change.proofs.Counts.{pid_tells}
 use Rattle.service_lawful.specs.Consistent.{IsConsistent}
-use Rattle.service_step.specs.Ends.{is_made, owner, unmade}
+use Rattle.service_step.specs.Ends.{is_made, owner}
 use Rattle.service_step.specs.State.{State as Service}
 use Rattle.service_step.specs.Steps.{IsServiceStep, may_receive_as}
 use Rattle.service_step.specs.declared.state.End.{End}
-use Rattle.service_step.specs.declared.state.Inward.{Inward}
 use Rattle.service_step.specs.declared.state.Inward.TheVariants as inward
 use Rattle.service_step.specs.declared.state.Message.{Message as Told}
 use Rattle.service_step.specs.declared.state.Place.{Place}

@@ -16,7 +16,6 @@ use Rattle.service_step.specs.Ends.{end_eq, is_living, is_unreported_inward, own
 use Rattle.service_step.specs.Lawful.{IsHeldAt}
 use Rattle.service_step.specs.State.{State as Service}
 use Rattle.service_step.specs.Steps.{IsServiceStep, after_cancel}
-use Rattle.service_step.specs.declared.state.Inward.{Inward}
 use Rattle.service_step.specs.declared.state.Inward.TheVariants as inward
 use Rattle.service_step.specs.declared.state.Message.{Message}
 use Rattle.service_step.specs.declared.state.Phase.TheVariants as phase
@@ -26,7 +25,6 @@ use Rattle.service_streams.proofs.Places.{oldest-first, oldest-there}
 use Rattle.service_streams.specs.Streams.{cancels_send, given_by, is_done, sent_by, told_by, told_in}
 use Rattle.service_custody.specs.Moves.{brings, enclosed_in, gives, how_often}
 use Rattle.entry_steps.specs.Entries.{IsUncalled}
-use Rattle.request_acts.specs.Acted.{process}
 
 -- ---- what stays
 

@@ -1,6 +1,5 @@
 -- The invariant of a run: how the service, the owners of ends and each link by itself stand to each other.
-use Rattle.std.specs.Prelude.{◌≡◌, ◌⊎◌, ℕ, suc, ◌+◌, ◌*◌, ◌≤◌, ◌<◌, List, [], ◌∷◌, ◌++◌, length, Option, Some, None, Ok, ⊤}
-use Rattle.std.specs.Prelude as prelude
+use Rattle.std.specs.Prelude.{◌≡◌, ◌⊎◌, ℕ, ◌+◌, ◌*◌, ◌≤◌, ◌<◌, List, [], ◌∷◌, ◌++◌, length, Option, Some, Ok, ⊤}
 use Rattle.charlotte_calls.specs.Names.{opposite}
 use Rattle.charlotte_calls.specs.declared.calls.Answer.{Answer}
 use Rattle.charlotte_calls.specs.declared.calls.Answer.TheVariants as answer
@@ -22,7 +21,6 @@ use Rattle.service_custody.specs.Coming.{AreMatched, coming}
 use Rattle.service_custody.specs.Deaths.{IsGone, IsOn}
 use Rattle.service_custody.specs.Moves.{brings}
 use Rattle.lynx_packets.specs.Packets.{packet_of}
-use Rattle.end_protocol.specs.declared.kept.Kept.{Kept}
 use Rattle.end_protocol.specs.declared.kept.Receiving.TheVariants as receiving
 use Rattle.end_protocol.specs.declared.messages.Message.{Message}
 use Rattle.end_protocol.specs.Deeds.{Deed}
