@@ -26,10 +26,10 @@ use Rattle.process_run.specs.Runs.{step as step_of}
 use Rattle.language_links.specs.Acting.{Acting, Fleet, called, hears_entry}
 use Rattle.request_acts.specs.Acted.{home_of, process}
 use Rattle.request_acts.proofs.Fleets.{asked_by, heard-here, heard-not, set-other, set-self}
-use Rattle.followed_links.specs.Hearing.{all_hear_steps, hears_step, hears_steps, owner_told, owners, told_of, with_owner}
-use Rattle.followed_links.specs.Invariant.{Owners, Stands}
-use Rattle.followed_links.specs.Owners.{Asks, Over, Owner, Pends, Runs, Status, Told, owner_of, status_of}
-use Rattle.followed_links.specs.Steps.{HasBytes, HasRoom, IsFirst, IsMine}
+use Rattle.run_invariant.specs.Hearing.{all_hear_steps, hears_step, hears_steps, owner_told, owners, told_of, with_owner}
+use Rattle.run_invariant.specs.Invariant.{Owners, Stands}
+use Rattle.run_invariant.specs.Owners.{Asks, Over, Owner, Pends, Runs, Status, Told, owner_of, status_of}
+use Rattle.run_invariant.specs.Steps.{HasBytes, HasRoom, IsFirst, IsMine}
 use Rattle.followed_links.proofs.Hearing.{hears-status, runs-stays, status-told}
 use Rattle.followed_links.proofs.Entries.{StepsKeep, first-silent, more-entries, uncalled-all, unheard}
 

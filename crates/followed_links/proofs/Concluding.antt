@@ -22,8 +22,8 @@ use Rattle.process_changes.specs.AtEnd.{deeds_at}
 use Rattle.request_acts.specs.Acted.{AreActed, deeds_of, process}
 use Rattle.request_runs.specs.Followed.{IsFollowed}
 use Rattle.request_runs.proofs.Followed.{followed_in_order}
-use Rattle.followed_links.specs.Invariant.{IsFollowedTo}
-use Rattle.followed_links.specs.Hearing.{owners}
+use Rattle.run_invariant.specs.Invariant.{IsFollowedTo}
+use Rattle.run_invariant.specs.Hearing.{owners}
 use Rattle.followed_links.proofs.Calling.{below-or-above}
 use Rattle.followed_links.proofs.Entries.{StepsKeep}
 use Rattle.followed_links.proofs.Following.{Follows, IsFollowing, ProcessesKeep, ServiceMoves, follows, since_of}

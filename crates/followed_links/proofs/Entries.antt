@@ -19,10 +19,10 @@ use Rattle.entry_steps.specs.Entries.{IsOwn, IsUncalled}
 use Rattle.end_protocol.specs.Deeds.{Deed}
 use Rattle.process_run.specs.States.{State}
 use Rattle.request_acts.specs.Acted.{process}
-use Rattle.followed_links.specs.Hearing.{all_hear, all_hear_steps, hears_step, hears_steps, owner_told, told_of, with_owner}
-use Rattle.followed_links.specs.Invariant.{IsOwner, Owners, Stands}
-use Rattle.followed_links.specs.Owners.{Asks, Over, Pends, Runs, Status, Told, phase_of}
-use Rattle.followed_links.specs.Steps.{HasBytes, HasRoom, IsFirst, IsMine}
+use Rattle.run_invariant.specs.Hearing.{all_hear, all_hear_steps, hears_step, hears_steps, owner_told, told_of, with_owner}
+use Rattle.run_invariant.specs.Invariant.{IsOwner, Owners, Stands}
+use Rattle.run_invariant.specs.Owners.{Asks, Over, Pends, Runs, Status, Told, phase_of}
+use Rattle.run_invariant.specs.Steps.{HasBytes, HasRoom, IsFirst, IsMine}
 use Rattle.followed_links.proofs.Hearing.{pends-tell, told-stays, asks-stays, runs-stays, over-stays}
 
 -- the answer of one step alone

@@ -37,10 +37,10 @@ use Rattle.language_links.specs.Acting.{Acting, Acts, Calls, Done, Fleet, IsAski
 use Rattle.request_acts.specs.Acted.{home_of, process}
 use Rattle.request_acts.proofs.Callers.{none-else, own-call}
 use Rattle.request_acts.proofs.Fleets.{asked_by, heard-here, heard-not, heard_by, set-other, set-self}
-use Rattle.followed_links.specs.Hearing.{owners, with_owner}
-use Rattle.followed_links.specs.Invariant.{Owners, Stands}
-use Rattle.followed_links.specs.Owners.{Asks, IsAskedFor, Owner, Status, given_of, owner_of, status_of}
-use Rattle.followed_links.specs.Steps.{HasBytes, IsFirst, IsMine, IsStepped, MayStep, after_step, owner_after}
+use Rattle.run_invariant.specs.Hearing.{owners, with_owner}
+use Rattle.run_invariant.specs.Invariant.{Owners, Stands}
+use Rattle.run_invariant.specs.Owners.{Asks, IsAskedFor, Owner, Status, given_of, owner_of, status_of}
+use Rattle.run_invariant.specs.Steps.{HasBytes, IsFirst, IsMine, IsStepped, MayStep, after_step, owner_after}
 use Rattle.followed_links.proofs.Entries.{StepsKeep}
 use Rattle.followed_links.proofs.Calling.{AreIdle, Begins, IsPrint, below-or-above, calling-stands, same-owners, steps-begin, taking-stands}
 use Rattle.followed_links.proofs.Passing.{IsOwnStep, weaves-step, weaves-uncalled}

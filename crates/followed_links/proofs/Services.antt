@@ -11,14 +11,14 @@ use Rattle.service_custody.proofs.Matching.{matched-after}
 use Rattle.service_custody.proofs.Moving.{each-moves}
 use Rattle.service_custody.proofs.Phases.{phases-next}
 use Rattle.service_custody.proofs.Receiving.{receives-told}
-use Rattle.followed_links.specs.Invariant.{Owners}
-use Rattle.followed_links.specs.Steps.{HasBytes, HasRoom}
-use Rattle.followed_links.proofs.CallSteps.{own_stands}
+use Rattle.run_invariant.specs.Invariant.{Owners}
+use Rattle.run_invariant.specs.Steps.{HasBytes, HasRoom}
+use Rattle.run_service_steps.proofs.CallSteps.{own_stands}
 use Rattle.followed_links.proofs.Entries.{StepsKeep}
 use Rattle.followed_links.proofs.Following.{ServiceMoves}
-use Rattle.followed_links.proofs.Laws.{Laws}
-use Rattle.followed_links.proofs.Printing.{print_stands}
-use Rattle.followed_links.proofs.ServiceSteps.{AreFew, uncalled_stands}
+use Rattle.run_service_steps.proofs.Laws.{Laws}
+use Rattle.run_service_steps.proofs.Printing.{print_stands}
+use Rattle.run_service_steps.proofs.ServiceSteps.{AreFew, uncalled_stands}
 
 pub laws : Laws
 laws = record {

@@ -40,9 +40,9 @@ use Rattle.language_links.specs.Acting.{Program, at_start}
 use Rattle.request_acts.specs.Acted.{process as pid}
 use Rattle.request_acts.specs.Claimed.{AreWired}
 use Rattle.request_runs.specs.Sides.{Courses, Flipped, Free, Goes, Held, Holds, Pair, Rests, Side, flipped, new_pair, new_side}
-use Rattle.followed_links.specs.Hearing.{owners}
-use Rattle.followed_links.specs.Invariant.{AreOwners, AreSpelled, IsFollowedTo, IsInOnePlace, IsOwned, IsOwner, IsSide, IsSideAt, IsStandingIn, Owners, Stands}
-use Rattle.followed_links.specs.Owners.{seen_of}
+use Rattle.run_invariant.specs.Hearing.{owners}
+use Rattle.run_invariant.specs.Invariant.{AreOwners, AreSpelled, IsFollowedTo, IsInOnePlace, IsOwned, IsOwner, IsSide, IsSideAt, IsStandingIn, Owners, Stands}
+use Rattle.run_invariant.specs.Owners.{seen_of}
 use Rattle.followed_links.proofs.Following.{IsFollowing}
 
 -- ---- the places of a process that holds these ends

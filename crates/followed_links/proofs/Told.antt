@@ -16,8 +16,8 @@ use Rattle.charlotte_calls.specs.declared.program.Next.TheVariants as next
 use Rattle.program_runs.specs.Replay.{IsGiven, IsNoCall}
 use Rattle.told_answers.specs.Told.{Answered, Heard, NoCall, Pending, cancel_in, first_in, granted_told, heard_of, hears_by, later_told, made_in, or_else, own_told, refusal_in, report_in}
 use Rattle.process_sound.specs.Told.{IsTold}
-use Rattle.followed_links.specs.Owners.{given_of, status_of}
-use Rattle.followed_links.specs.Steps.{MayStep, after_step}
+use Rattle.run_invariant.specs.Owners.{given_of, status_of}
+use Rattle.run_invariant.specs.Steps.{MayStep, after_step}
 
 -- ---- what a step is given
 

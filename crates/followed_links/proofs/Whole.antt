@@ -15,10 +15,10 @@ use Rattle.request_acts.specs.Claimed.{AreWired}
 use Rattle.request_runs.specs.Followed.{IsFollowed}
 use Rattle.followed_links.proofs.Concluding.{acts-are-followed, acts-are-in-order}
 use Rattle.followed_links.proofs.Following.{ProcessesKeep}
-use Rattle.followed_links.proofs.ProcessSteps.{step_stands}
+use Rattle.run_process_steps.proofs.ProcessSteps.{step_stands}
 use Rattle.followed_links.proofs.Services.{moving, services}
 use Rattle.followed_links.proofs.Starting.{start-follows}
-use Rattle.followed_links.proofs.Stepping.{Lemmas}
+use Rattle.run_process_steps.proofs.Stepping.{Lemmas}
 
 lemmas : Lemmas
 lemmas = record { steps_change = step_changes; deaf_ends_get_nothing = deaf-nothing }
