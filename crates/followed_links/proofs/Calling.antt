@@ -1,5 +1,5 @@
 -- An entry keeps the invariant: of a packet that is taken, or of a call.
-use Rattle.std.proofs.Common.{arith, ◌≡◌, ◌⊎◌, inl, inr, ⊎_elim, ℕ, zero, suc, ◌+◌, ◌*◌, ◌≤◌, ◌<◌, nat_eq, leb, Bool, true, false, if◌then◌else◌, List, [], ◌∷◌, ◌++◌, length, Option, Some, None, refl, sym, ap, subst, ◌∙◌, eq-eqb, eqb-true}
+use Rattle.std.proofs.Common.{arith, ◌≡◌, ◌⊎◌, inl, inr, ⊎_elim, ℕ, suc, ◌+◌, ◌*◌, ◌≤◌, ◌<◌, nat_eq, leb, Bool, true, false, if◌then◌else◌, List, [], ◌∷◌, ◌++◌, length, Option, Some, None, refl, sym, ap, subst, ◌∙◌, eq-eqb, eqb-true}
 use Rattle.std.specs.List.{AllByRecursion}
 use Rattle.std.proofs.lemmas.Bool.Decides.{leb_tells}
 use Rattle.charlotte_calls.specs.declared.calls.Answer.{Answer}
@@ -14,8 +14,6 @@ use Rattle.charlotte_calls.specs.declared.names.Way.TheVariants.{Inward, Outward
 use Rattle.charlotte_calls.specs.declared.program.Next.{Next}
 use Rattle.charlotte_calls.specs.declared.program.Next.TheVariants as next
 use Rattle.charlotte_calls.specs.declared.setting.Setting.{Setting}
-use Rattle.kernel_entries.specs.declared.entry.Happened.TheVariants.{Asked, Took}
-use Rattle.kernel_entries.specs.declared.entry.Happened.{Happened}
 use Rattle.kernel_entries.specs.declared.entry.Placed.{Placed}
 use Rattle.service_step.specs.Run.{IsRunFrom, state_after}
 use Rattle.service_step.specs.State.{State as Service}
@@ -24,15 +22,14 @@ use Rattle.service_streams.specs.Streams.{steps_in}
 use Rattle.told_answers.specs.Told.{Heard, call_of, hears_by, heard_of, own_told}
 use Rattle.entry_steps.specs.Entries.{AreOfCall, Granted, IsEntry, IsOwn, IsToldBy, IsUncalled, Refused}
 use Rattle.end_protocol.specs.Deeds.{Deed}
-use Rattle.process_run.specs.States.{State}
 use Rattle.process_run.specs.Runs.{step as step_of}
-use Rattle.language_links.specs.Acting.{Acting, Fleet, called, hears_entry, with_acting}
+use Rattle.language_links.specs.Acting.{Acting, Fleet, called, hears_entry}
 use Rattle.request_acts.specs.Acted.{home_of, process}
-use Rattle.request_acts.proofs.Fleets.{asked_by, heard-here, heard-not, heard_by, set-other, set-self}
-use Rattle.followed_links.specs.Hearing.{all_hear, all_hear_steps, hears_step, hears_steps, owner_told, owners, told_of, with_owner}
-use Rattle.followed_links.specs.Invariant.{Owners, Stands}
-use Rattle.followed_links.specs.Owners.{Asks, Over, Owner, Pends, Runs, Status, Told, owner_of, status_of}
-use Rattle.followed_links.specs.Steps.{HasBytes, HasRoom, IsFirst, IsMine}
+use Rattle.request_acts.proofs.Fleets.{asked_by, heard-here, heard-not, set-other, set-self}
+use Rattle.run_invariant.specs.Hearing.{all_hear_steps, hears_step, hears_steps, owner_told, owners, told_of, with_owner}
+use Rattle.run_invariant.specs.Invariant.{Owners, Stands}
+use Rattle.run_invariant.specs.Owners.{Asks, Over, Owner, Pends, Runs, Status, Told, owner_of, status_of}
+use Rattle.run_invariant.specs.Steps.{HasBytes, HasRoom, IsFirst, IsMine}
 use Rattle.followed_links.proofs.Hearing.{hears-status, runs-stays, status-told}
 use Rattle.followed_links.proofs.Entries.{StepsKeep, first-silent, more-entries, uncalled-all, unheard}
 

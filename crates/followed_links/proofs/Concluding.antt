@@ -1,5 +1,5 @@
 -- Each link of a run is followed by events, with just the deeds of the run.
-use Rattle.std.proofs.Common.{arith, ◌≡◌, ◌⊎◌, inl, inr, ⊎_elim, ℕ, zero, suc, ◌+◌, ◌*◌, ◌^◌, ◌≤◌, ◌<◌, nat_eq, Bool, true, false, List, [], ◌∷◌, ◌++◌, length, map, All, refl, sym, ap, subst, ◌∙◌, eq-eqb, eqb-true, append-nil}
+use Rattle.std.proofs.Common.{arith, ◌≡◌, ⊎_elim, ℕ, zero, suc, ◌+◌, ◌^◌, ◌≤◌, ◌<◌, nat_eq, Bool, true, false, List, [], ◌++◌, length, map, All, refl, sym, ap, subst, ◌∙◌, eq-eqb, eqb-true, append-nil}
 use Rattle.std.specs.List.{range_with_len}
 use Rattle.charlotte_calls.specs.Names.{opposite}
 use Rattle.charlotte_calls.specs.Setting.{IsValid}
@@ -11,7 +11,6 @@ use Rattle.kernel_entries.specs.declared.entry.Placed.{Placed}
 use Rattle.service_step.specs.Lawful.{IsHeldAt}
 use Rattle.service_step.specs.Run.{start_state}
 use Rattle.service_step.specs.State.{Process, State as Service}
-use Rattle.service_step.specs.declared.state.Phase.TheVariants as phase
 use Rattle.service_step.specs.declared.state.Place.{Place}
 use Rattle.service_step.specs.declared.state.Place.TheVariants as place
 use Rattle.theorem.specs.Record.{IsLawfulRecord}
@@ -20,16 +19,15 @@ use Rattle.end_protocol.specs.Deeds.{Deed}
 use Rattle.language_links.specs.Acting.{Done, Fleet, Program, at_end, at_start, done_by}
 use Rattle.language_links.specs.Claims.{AreInOrder, deeds_on}
 use Rattle.process_changes.specs.AtEnd.{deeds_at}
-use Rattle.request_acts.specs.Acted.{AreActed, deeds_of, home_of, process}
-use Rattle.request_acts.specs.Claimed.{AreWired}
+use Rattle.request_acts.specs.Acted.{AreActed, deeds_of, process}
 use Rattle.request_runs.specs.Followed.{IsFollowed}
 use Rattle.request_runs.proofs.Followed.{followed_in_order}
-use Rattle.followed_links.specs.Invariant.{IsFollowedTo}
-use Rattle.followed_links.specs.Hearing.{owners}
+use Rattle.run_invariant.specs.Invariant.{IsFollowedTo}
+use Rattle.run_invariant.specs.Hearing.{owners}
 use Rattle.followed_links.proofs.Calling.{below-or-above}
 use Rattle.followed_links.proofs.Entries.{StepsKeep}
 use Rattle.followed_links.proofs.Following.{Follows, IsFollowing, ProcessesKeep, ServiceMoves, follows, since_of}
-use Rattle.followed_links.proofs.Weaving.{AreWoven, IsUnowned, on-both, on-done, same-owner}
+use Rattle.followed_links.proofs.Weaving.{IsUnowned, on-both, on-done, same-owner}
 
 -- ---- the deeds that no call followed
 

@@ -1,37 +1,28 @@
 -- An entry keeps the invariant, where each of its steps does.
-use Rattle.std.proofs.Common.{arith, ◌≡◌, ◌≢◌, ◌⊎◌, inl, inr, ℕ, zero, suc, ◌+◌, ◌*◌, ◌≤◌, ◌<◌, nat_eq, Bool, true, false, if◌then◌else◌, List, [], ◌∷◌, ◌++◌, length, Option, Some, None, refl, sym, ap, subst, ◌∙◌, eq-eqb, eqb-true}
+use Rattle.std.proofs.Common.{arith, ◌≡◌, inl, inr, ℕ, suc, ◌+◌, ◌*◌, ◌≤◌, ◌<◌, List, [], ◌∷◌, length, Option, Some, None, refl, sym, ap, subst, ◌∙◌}
 use Rattle.std.specs.List.{AllByRecursion}
 use Rattle.charlotte_calls.specs.declared.calls.Answer.{Answer}
 use Rattle.charlotte_calls.specs.declared.calls.Answer.TheVariants as answer
 use Rattle.charlotte_calls.specs.declared.calls.Call.{Call}
 use Rattle.charlotte_calls.specs.declared.calls.Call.TheVariants as call
-use Rattle.charlotte_calls.specs.declared.calls.Cause.{Cause}
-use Rattle.charlotte_calls.specs.declared.calls.Report.{Report}
 use Rattle.charlotte_calls.specs.declared.calls.ServiceStep.{ServiceStep}
 use Rattle.charlotte_calls.specs.declared.calls.ServiceStep.TheVariants as step
 use Rattle.charlotte_calls.specs.declared.names.EndId.{EndId}
-use Rattle.charlotte_calls.specs.declared.names.Pid.{Pid}
 use Rattle.charlotte_calls.specs.declared.names.Way.TheVariants.{Inward, Outward}
-use Rattle.charlotte_calls.specs.declared.setting.Setting.{Setting}
-use Rattle.kernel_entries.specs.declared.entry.Happened.TheVariants.{Asked, Took}
-use Rattle.kernel_entries.specs.declared.entry.Happened.{Happened}
-use Rattle.kernel_entries.specs.declared.entry.Placed.{Placed}
 use Rattle.service_step.specs.Run.{IsRunFrom, state_after}
 use Rattle.service_step.specs.State.{State as Service}
 use Rattle.service_step.specs.Steps.{IsServiceStep}
-use Rattle.service_step.specs.declared.state.Phase.{Phase}
 use Rattle.service_step.specs.declared.state.Phase.TheVariants as phase
-use Rattle.service_step.specs.declared.state.Place.TheVariants as place
 use Rattle.service_streams.specs.Streams.{steps_in}
-use Rattle.told_answers.specs.Told.{call_of, cancel_in, later_told, or_else, own_told, report_in}
-use Rattle.entry_steps.specs.Entries.{AreOfCall, Granted, IsEntry, IsOwn, IsToldBy, IsUncalled, Refused}
+use Rattle.told_answers.specs.Told.{cancel_in, later_told, or_else, own_told, report_in}
+use Rattle.entry_steps.specs.Entries.{IsOwn, IsUncalled}
 use Rattle.end_protocol.specs.Deeds.{Deed}
 use Rattle.process_run.specs.States.{State}
-use Rattle.request_acts.specs.Acted.{home_of, process}
-use Rattle.followed_links.specs.Hearing.{all_hear, all_hear_steps, hears_step, hears_steps, owner_told, told_of, with_owner}
-use Rattle.followed_links.specs.Invariant.{AreOwners, IsOwner, Owners, Stands}
-use Rattle.followed_links.specs.Owners.{Asks, Over, Owner, Pends, Runs, Status, Told, phase_of}
-use Rattle.followed_links.specs.Steps.{HasBytes, HasRoom, IsFirst, IsMine}
+use Rattle.request_acts.specs.Acted.{process}
+use Rattle.run_invariant.specs.Hearing.{all_hear, all_hear_steps, hears_step, hears_steps, owner_told, told_of, with_owner}
+use Rattle.run_invariant.specs.Invariant.{IsOwner, Owners, Stands}
+use Rattle.run_invariant.specs.Owners.{Asks, Over, Pends, Runs, Status, Told, phase_of}
+use Rattle.run_invariant.specs.Steps.{HasBytes, HasRoom, IsFirst, IsMine}
 use Rattle.followed_links.proofs.Hearing.{pends-tell, told-stays, asks-stays, runs-stays, over-stays}
 
 -- the answer of one step alone

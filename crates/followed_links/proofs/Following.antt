@@ -1,8 +1,8 @@
 -- Along a replay of all processes the invariant stands, with the deeds of the run.
-use Rattle.std.proofs.Common.{arith, ◌≡◌, ◌⊎◌, inl, inr, ⊎_elim, ℕ, zero, suc, ◌+◌, ◌*◌, ◌^◌, ◌≤◌, ◌<◌, nat_eq, Bool, true, false, if◌then◌else◌, List, [], ◌∷◌, ◌++◌, length, All, Option, Some, None, refl, sym, ap, subst, ◌∙◌, eq-eqb, eqb-true, append-nil, append_assoc}
+use Rattle.std.proofs.Common.{arith, ◌≡◌, inl, inr, ⊎_elim, ℕ, suc, ◌+◌, ◌^◌, ◌≤◌, ◌<◌, nat_eq, Bool, true, false, if◌then◌else◌, List, [], ◌∷◌, ◌++◌, length, All, Option, Some, None, refl, sym, ap, subst, ◌∙◌, eq-eqb, eqb-true, append-nil, append_assoc}
 use Rattle.std.proofs.lemmas.List.Elements.{All-head, All-tail}
 use Rattle.std.specs.List.{AllByRecursion}
-use Rattle.charlotte_calls.specs.Ranges.{IsCallInRange, IsStepInRange}
+use Rattle.charlotte_calls.specs.Ranges.{IsCallInRange}
 use Rattle.charlotte_calls.specs.declared.calls.Cause.{Cause}
 use Rattle.charlotte_calls.specs.declared.calls.Answer.{Answer}
 use Rattle.charlotte_calls.specs.declared.calls.Call.{Call}
@@ -13,7 +13,6 @@ use Rattle.charlotte_calls.specs.declared.names.EndId.{EndId}
 use Rattle.charlotte_calls.specs.declared.names.Pid.{Pid}
 use Rattle.charlotte_calls.specs.declared.names.Way.{Way}
 use Rattle.charlotte_calls.specs.declared.program.Next.{Next}
-use Rattle.charlotte_calls.specs.declared.program.Next.TheVariants as next
 use Rattle.charlotte_calls.specs.declared.setting.Setting.{Setting}
 use Rattle.kernel_entries.specs.Ranges.{IsHappenedInRange, IsPlacedInRange}
 use Rattle.kernel_entries.specs.declared.entry.Happened.TheVariants.{Asked, Took}
@@ -26,22 +25,22 @@ use Rattle.service_step.specs.Steps.{IsServiceStep}
 use Rattle.service_step.specs.declared.state.Place.TheVariants as place
 use Rattle.service_streams.specs.Streams.{cancels_send, steps_in}
 use Rattle.service_custody.specs.Moves.{Moves}
-use Rattle.told_answers.specs.Told.{Heard, call_of, hears_by}
-use Rattle.program_runs.specs.Replay.{IsGiven, IsNoCall}
-use Rattle.entry_steps.specs.Entries.{AreEntries, AreOfCall, AreOfEntry, IsEntry, IsOwn, IsUncalled}
+use Rattle.told_answers.specs.Told.{call_of, hears_by}
+use Rattle.program_runs.specs.Replay.{IsGiven}
+use Rattle.entry_steps.specs.Entries.{AreEntries, AreOfEntry, IsEntry, IsOwn, IsUncalled}
 use Rattle.end_protocol.specs.Deeds.{Deed}
-use Rattle.process_run.specs.States.{DeedOn, State}
-use Rattle.process_run.specs.Runs.{Did, deeds as step_deeds, did, step as step_of}
+use Rattle.process_run.specs.States.{DeedOn}
+use Rattle.process_run.specs.Runs.{Did, did}
 use Rattle.process_sound.specs.Told.{IsTold}
 use Rattle.process_changes.specs.AtEnd.{deeds_at}
 use Rattle.language_links.specs.Acting.{Acting, Acts, Calls, Done, Fleet, IsAsking, IsPausing, Pauses, Rests, Takes, called, deeds_before, done_by, hears_entry, paused, with_acting}
 use Rattle.request_acts.specs.Acted.{home_of, process}
 use Rattle.request_acts.proofs.Callers.{none-else, own-call}
 use Rattle.request_acts.proofs.Fleets.{asked_by, heard-here, heard-not, heard_by, set-other, set-self}
-use Rattle.followed_links.specs.Hearing.{owners, with_owner}
-use Rattle.followed_links.specs.Invariant.{Owners, Stands}
-use Rattle.followed_links.specs.Owners.{Asks, IsAskedFor, Owner, Status, given_of, owner_of, status_of}
-use Rattle.followed_links.specs.Steps.{HasBytes, IsFirst, IsMine, IsStepped, MayStep, after_step, owner_after}
+use Rattle.run_invariant.specs.Hearing.{owners, with_owner}
+use Rattle.run_invariant.specs.Invariant.{Owners, Stands}
+use Rattle.run_invariant.specs.Owners.{Asks, IsAskedFor, Owner, Status, given_of, owner_of, status_of}
+use Rattle.run_invariant.specs.Steps.{HasBytes, IsFirst, IsMine, IsStepped, MayStep, after_step, owner_after}
 use Rattle.followed_links.proofs.Entries.{StepsKeep}
 use Rattle.followed_links.proofs.Calling.{AreIdle, Begins, IsPrint, below-or-above, calling-stands, same-owners, steps-begin, taking-stands}
 use Rattle.followed_links.proofs.Passing.{IsOwnStep, weaves-step, weaves-uncalled}

@@ -1,5 +1,5 @@
 -- What the entries tell of a process is what their steps tell, one after the other.
-use Rattle.std.proofs.Common.{◌≡◌, ℕ, List, [], ◌∷◌, ◌++◌, Option, Some, None, refl, sym, ap, ◌∙◌}
+use Rattle.std.proofs.Common.{◌≡◌, ℕ, List, [], ◌∷◌, Option, Some, None, refl, sym, ap, ◌∙◌}
 use Rattle.charlotte_calls.specs.declared.calls.Answer.{Answer}
 use Rattle.charlotte_calls.specs.declared.calls.Call.{Call}
 use Rattle.charlotte_calls.specs.declared.calls.Call.TheVariants as call
@@ -7,10 +7,10 @@ use Rattle.charlotte_calls.specs.declared.calls.ServiceStep.{ServiceStep}
 use Rattle.charlotte_calls.specs.declared.names.Way.TheVariants.{Inward, Outward}
 use Rattle.charlotte_calls.specs.declared.program.Next.{Next}
 use Rattle.charlotte_calls.specs.declared.program.Next.TheVariants as next
-use Rattle.told_answers.specs.Told.{Answered, Heard, NoCall, Pending, cancel_in, first_in, heard_of, hears_by, later_told, or_else, own_told, report_in}
+use Rattle.told_answers.specs.Told.{Answered, Heard, NoCall, Pending, cancel_in, first_in, heard_of, hears_by, later_told, or_else, report_in}
 use Rattle.request_acts.specs.Acted.{process}
-use Rattle.followed_links.specs.Hearing.{hears_step, hears_steps, told_of}
-use Rattle.followed_links.specs.Owners.{Asks, Over, Pends, Runs, Status, Told, status_of}
+use Rattle.run_invariant.specs.Hearing.{hears_steps, told_of}
+use Rattle.run_invariant.specs.Owners.{Asks, Over, Pends, Runs, Told, status_of}
 
 -- ---- one step after the other
 

@@ -1,13 +1,10 @@
 -- Which ends a step of the service takes from their owners: those of the process that calls.
-use Rattle.std.proofs.Common.{◌≡◌, ◌⊎◌, inl, inr, ⊎_elim, ℕ, Bool, true, false, List, [], ◌∷◌, refl, sym, ap, subst, ◌∙◌}
+use Rattle.std.proofs.Common.{◌≡◌, ◌⊎◌, inl, inr, ℕ, false, List, [], ◌∷◌, refl, sym, ap, subst, ◌∙◌}
 use Rattle.std.specs.List.{AllByRecursion}
-use Rattle.charlotte_calls.specs.declared.calls.Call.{Call}
-use Rattle.charlotte_calls.specs.declared.calls.Call.TheVariants as call
 use Rattle.charlotte_calls.specs.declared.calls.ServiceStep.{ServiceStep}
 use Rattle.charlotte_calls.specs.declared.calls.ServiceStep.TheVariants as step
 use Rattle.charlotte_calls.specs.declared.names.EndId.{EndId}
 use Rattle.charlotte_calls.specs.declared.names.Pid.{Pid}
-use Rattle.charlotte_calls.specs.declared.names.Way.TheVariants as way
 use Rattle.service_lawful.specs.Consistent.{IsConsistent}
 use Rattle.service_step.specs.Run.{IsRunFrom, state_after}
 use Rattle.service_step.specs.State.{State as Service}
@@ -17,12 +14,11 @@ use Rattle.service_step.specs.declared.state.Place.TheVariants as place
 use Rattle.service_streams.specs.Streams.{cancels_send, steps_in}
 use Rattle.service_custody.specs.Moves.{Moves}
 use Rattle.service_custody.specs.Moves as moves
-use Rattle.entry_steps.specs.Entries.{IsOwn, IsUncalled}
+use Rattle.entry_steps.specs.Entries.{IsUncalled}
 use Rattle.end_protocol.specs.Deeds.{Deed}
 use Rattle.process_run.specs.States.{DeedOn}
 use Rattle.language_links.specs.Acting.{Done}
 use Rattle.request_acts.specs.Acted.{process}
-use Rattle.followed_links.specs.Steps.{IsFirst, IsMine}
 use Rattle.followed_links.proofs.Weaving.{AreWoven, Comes, Goes, IsUnowned, Passes, Stays, weaves-passing}
 
 -- the end at which a process sends or which it destroys is its own, and it alone exits

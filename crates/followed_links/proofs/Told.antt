@@ -1,7 +1,7 @@
 -- What a process is given, and that what it is told are bytes.
-use Rattle.std.proofs.Common.{◌≡◌, ◌⊎◌, inl, inr, ℕ, zero, suc, Bool, true, false, nat_eq, List, [], ◌∷◌, All, Option, Some, None, if◌then◌else◌, refl, sym, ap, subst, ◌∙◌}
+use Rattle.std.proofs.Common.{◌≡◌, Bool, true, false, nat_eq, List, [], ◌∷◌, All, Option, Some, None, if◌then◌else◌, refl, sym, subst}
 use Rattle.std.proofs.lemmas.List.Elements.{All-head, All-tail}
-use Rattle.charlotte_calls.specs.Ranges.{AreBytesInRange, IsStepInRange}
+use Rattle.charlotte_calls.specs.Ranges.{IsStepInRange}
 use Rattle.charlotte_calls.specs.declared.calls.Answer.{Answer}
 use Rattle.charlotte_calls.specs.declared.calls.Answer.TheVariants as answer
 use Rattle.charlotte_calls.specs.declared.calls.Call.{Call}
@@ -16,9 +16,8 @@ use Rattle.charlotte_calls.specs.declared.program.Next.TheVariants as next
 use Rattle.program_runs.specs.Replay.{IsGiven, IsNoCall}
 use Rattle.told_answers.specs.Told.{Answered, Heard, NoCall, Pending, cancel_in, first_in, granted_told, heard_of, hears_by, later_told, made_in, or_else, own_told, refusal_in, report_in}
 use Rattle.process_sound.specs.Told.{IsTold}
-use Rattle.request_acts.specs.Acted.{process}
-use Rattle.followed_links.specs.Owners.{given_of, status_of}
-use Rattle.followed_links.specs.Steps.{MayStep, after_step}
+use Rattle.run_invariant.specs.Owners.{given_of, status_of}
+use Rattle.run_invariant.specs.Steps.{MayStep, after_step}
 
 -- ---- what a step is given
 

@@ -21,7 +21,7 @@ use Rattle.process_run.specs.States as process
 use Rattle.process_run.specs.Actions.{acts}
 use Rattle.process_run.specs.Ends.{room}
 use Rattle.process_run.specs.Reports.{answered}
-use Rattle.process_run.specs.Runs.{Asking, Did, asks_first, calls, did, due_among, due_on, due_so, exits, finishes, first_due, goes_on, is_in_use, machine_run, most_actions, most_instructions, or_asking, pauses, proceeds, sending, settles, slice, stopped, unless_over, waits, with_deeds}
+use Rattle.process_run.specs.Runs.{Asking, Did, asks_first, calls, did, due_among, due_on, due_so, finishes, first_due, goes_on, is_in_use, machine_run, most_actions, most_instructions, or_asking, pauses, proceeds, sending, settles, stopped, unless_over, waits, with_deeds}
 use Rattle.process_changes.specs.Asking.{IsAsking, IsCallOf}
 use Rattle.process_changes.specs.Changes.{IsHeld}
 use Rattle.process_changes.proofs.Places.{same_some}

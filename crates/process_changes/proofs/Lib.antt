@@ -11,3 +11,4 @@ pub mod Held
 pub mod AtEnd
 pub mod ToldAt
 pub mod Away
+pub mod Growing

@@ -1,5 +1,5 @@
 -- The ends of a process after some changes.
-use Rattle.std.proofs.Common.{arith, ◌≡◌, ℕ, zero, suc, ◌+◌, ◌≤◌, Bool, true, false, ◌&&◌, ◌||◌, List, [], ◌∷◌, ◌++◌, length, Option, Some, None, slice_get, if◌then◌else◌, refl, sym, ap, subst, ◌∙◌, append_assoc, append-nil, eq-eqb, eqb-true}
+use Rattle.std.proofs.Common.{arith, ◌≡◌, ℕ, suc, ◌+◌, ◌≤◌, Bool, true, false, ◌&&◌, ◌||◌, List, [], ◌∷◌, ◌++◌, length, Option, Some, None, if◌then◌else◌, refl, sym, ap, subst, ◌∙◌, append_assoc, append-nil, eq-eqb, eqb-true}
 use Rattle.std.specs.Prelude.{◌==◌}
 use Rattle.std.specs.List.{list_any}
 use Rattle.charlotte_calls.specs.EndEq.{same_link}
@@ -13,7 +13,7 @@ use Rattle.end_protocol.specs.Wanting.{is_busy}
 use Rattle.process_run.specs.States.{DeedOn, Gone, Held, Holding, Keeps, Place, State}
 use Rattle.process_run.specs.Actions.{fault_among, is_kept_back, link_fault, or_fault}
 use Rattle.process_run.specs.Deaths.{falls, raises, raises_in}
-use Rattle.process_run.specs.Ends.{end_of, ends_at, get_all, gets_one, held_at, held_in, held_of, hold_all, let_go, number_of, place_at, set_holding, with_holding}
+use Rattle.process_run.specs.Ends.{end_of, ends_at, get_all, gets_one, held_at, held_in, held_of, hold_all, let_go, number_of, place_at, with_holding}
 use Rattle.process_changes.proofs.Numbers.{other_place}
 use Rattle.process_changes.specs.Changes.{Change, Changes, Dooms, Gets, Holds, IsHeld, LetsGo, None as NoChange, RestWhole, Sorts, Then}
 use Rattle.process_changes.specs.Ledgers.{Ledger, how_often, ledger}

@@ -1,6 +1,5 @@
 -- What is told in an answer: one change at the end that it is about, and what comes of that.
-use Rattle.std.proofs.Common.{arith, rules, ◌≡◌, ◌⊎◌, inl, inr, ⊎_elim, ℕ, zero, suc, ◌+◌, ◌==◌, Bool, true, false, List, [], ◌∷◌, ◌++◌, Option, Some, None, Result, Ok, Err, slice_get, if◌then◌else◌, refl, sym, ap, subst, ◌∙◌, append-nil}
-use Rattle.charlotte_calls.specs.EndEq.{end_eq}
+use Rattle.std.proofs.Common.{◌≡◌, ◌⊎◌, inl, inr, ⊎_elim, ℕ, zero, suc, ◌==◌, Bool, true, false, List, [], ◌∷◌, ◌++◌, Option, Some, None, Result, Ok, Err, if◌then◌else◌, refl, sym, ap, subst, ◌∙◌, append-nil}
 use Rattle.charlotte_calls.specs.declared.calls.Answer.{Answer}
 use Rattle.charlotte_calls.specs.declared.calls.Answer.TheVariants as answer
 use Rattle.charlotte_calls.specs.declared.calls.Cause.TheVariants.{Dead, Late}
@@ -33,7 +32,7 @@ use Rattle.end_protocol.specs.Hearing.{accepted, gone_on, hears, is_readable, is
 use Rattle.process_run.specs.States.{Asked, DeedOn, Done, Gone, Held, Holding, Keeps, Place, State, deeds_on, quietly}
 use Rattle.process_run.specs.States as process
 use Rattle.process_run.specs.Deaths.{destroys, dies_at, does, falls, raises}
-use Rattle.process_run.specs.Ends.{dooms, gets, held_at, held_in, held_of, holds_again, number_from, number_of, or_number, place_at, room, set_holding, with_holding}
+use Rattle.process_run.specs.Ends.{dooms, gets, held_at, held_in, held_of, holds_again, number_of, place_at, room, with_holding}
 use Rattle.process_run.specs.Reports.{answered, cancelled_so, comes_of, heard_on, held_if, holding_of, listens, on_end, receives_so, reported, reported_in, reported_off, reported_on, returns_to, sent_so, spawns, takes}
 use Rattle.process_changes.specs.Changes.{Changes, IsHeld}
 use Rattle.process_changes.specs.Ledgers.{Ledger, brought, came_with, given_back, ledger}

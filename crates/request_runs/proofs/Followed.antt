@@ -1,5 +1,5 @@
 -- A run of which each link is followed by events has its requests in order.
-use Rattle.std.proofs.Common.{◌≡◌, ℕ, List, subst}
+use Rattle.std.proofs.Common.{ℕ, List, subst}
 use Rattle.charlotte_calls.specs.Names.{opposite}
 use Rattle.charlotte_calls.specs.declared.names.EndId.{EndId}
 use Rattle.end_protocol.specs.Deeds.{Deed}

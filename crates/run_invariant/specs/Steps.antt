@@ -16,9 +16,9 @@ use Rattle.end_protocol.specs.Deeds.{Deed}
 use Rattle.process_run.specs.Runs.{Did}
 use Rattle.process_changes.specs.AtEnd.{deeds_at}
 use Rattle.request_acts.specs.Acted.{process}
-use Rattle.followed_links.specs.Hearing.{with_owner}
-use Rattle.followed_links.specs.Invariant.{Owners, Stands}
-use Rattle.followed_links.specs.Owners.{Asks, Over, Owner, Runs, Status, Told}
+use Rattle.run_invariant.specs.Hearing.{with_owner}
+use Rattle.run_invariant.specs.Invariant.{Owners, Stands}
+use Rattle.run_invariant.specs.Owners.{Asks, Over, Owner, Runs, Status, Told}
 
 -- there is room for eight ends more
 abbrev pub HasRoom : ℕ → ℕ → Owners → Type 0

@@ -6,8 +6,8 @@ use Rattle.charlotte_calls.specs.declared.calls.ServiceStep.{ServiceStep}
 use Rattle.told_answers.specs.Told.{later_told}
 use Rattle.language_links.specs.Acting.{Fleet}
 use Rattle.request_acts.specs.Acted.{process}
-use Rattle.followed_links.specs.Invariant.{Owners}
-use Rattle.followed_links.specs.Owners.{Owner, Pends, Status, Told, owner_of}
+use Rattle.run_invariant.specs.Invariant.{Owners}
+use Rattle.run_invariant.specs.Owners.{Owner, Pends, Status, Told, owner_of}
 
 -- a call of which this was told
 abbrev pub told_of : Call → Option Answer → Status

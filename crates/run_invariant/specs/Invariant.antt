@@ -1,6 +1,5 @@
 -- The invariant of a run: how the service, the owners of ends and each link by itself stand to each other.
-use Rattle.std.specs.Prelude.{◌≡◌, ◌⊎◌, ℕ, suc, ◌+◌, ◌*◌, ◌≤◌, ◌<◌, List, [], ◌∷◌, ◌++◌, length, Option, Some, None, Ok, ⊤}
-use Rattle.std.specs.Prelude as prelude
+use Rattle.std.specs.Prelude.{◌≡◌, ◌⊎◌, ℕ, ◌+◌, ◌*◌, ◌≤◌, ◌<◌, List, [], ◌∷◌, ◌++◌, length, Option, Some, Ok, ⊤}
 use Rattle.charlotte_calls.specs.Names.{opposite}
 use Rattle.charlotte_calls.specs.declared.calls.Answer.{Answer}
 use Rattle.charlotte_calls.specs.declared.calls.Answer.TheVariants as answer
@@ -22,7 +21,6 @@ use Rattle.service_custody.specs.Coming.{AreMatched, coming}
 use Rattle.service_custody.specs.Deaths.{IsGone, IsOn}
 use Rattle.service_custody.specs.Moves.{brings}
 use Rattle.lynx_packets.specs.Packets.{packet_of}
-use Rattle.end_protocol.specs.declared.kept.Kept.{Kept}
 use Rattle.end_protocol.specs.declared.kept.Receiving.TheVariants as receiving
 use Rattle.end_protocol.specs.declared.messages.Message.{Message}
 use Rattle.end_protocol.specs.Deeds.{Deed}
@@ -34,8 +32,8 @@ use Rattle.process_changes.specs.Telling.{IsTold, Turn}
 use Rattle.process_sound.specs.Processes.{IsRunning}
 use Rattle.request_runs.specs.Sides.{Courses, Destroyed, Free, Held, Lost, Pair, Side, Standing, new_pair, new_side}
 use Rattle.request_acts.specs.Acted.{process}
-use Rattle.followed_links.specs.Owners.{IsAskedFor, Owner, Status, given_of, phase_of, seen_of, turn_of}
-use Rattle.followed_links.specs.Owners as owners
+use Rattle.run_invariant.specs.Owners.{IsAskedFor, Owner, Status, destroying, given_of, phase_of, seen_of, turn_of}
+use Rattle.run_invariant.specs.Owners as owners
 
 -- the owner of each number
 abbrev pub Owners : Type 0
@@ -56,7 +54,7 @@ pub record IsReportTrue (s : Service) (i : ℕ) (r : Report) : Type 0 where
 abbrev pub IsToldTrue : Service → ℕ → Status → Type 0
 IsToldTrue s i (owners.Told c (answer.Refused cause.Dead)) = (x : EndId) → IsOn x c → IsGone s x ⊎ IsGone s (opposite x)
 IsToldTrue s i (owners.Told (call.Cancel x w) answer.Ok) = (s.ends x).inward ≡ inward.Idle
-IsToldTrue s i (owners.Told c (answer.Reported r)) = IsReportTrue s i r
+IsToldTrue s i (owners.Told c (answer.Reported r)) = (c ≡ call.Wait) × IsReportTrue s i r
 IsToldTrue s i status = ⊤
 
 -- an answer brings eight ends at most
@@ -64,10 +62,14 @@ abbrev pub most_brought : Status → ℕ
 most_brought (owners.Told c a) = 8
 most_brought status = 0
 
--- The end is in one place at most: held, carried, in the hand, to be destroyed, or brought by a report that stands. Then the process owns it
+-- what the process has of an end: held, carried, in the hand, to be destroyed, or in the call that destroys it
+abbrev pub has_of : Owner → EndId → ℕ
+has_of o x = total (seen_of o x) + destroying x o.status
+
+-- The end is in one place at most: there, or brought by a report that stands. Then the process owns it
 pub record IsInOnePlace (s : Service) (o : Owner) (i : ℕ) (x : EndId) : Type 0 where
-  pub one : total (seen_of o x) + brings s (process i) x ≤ 1
-  pub own : 1 ≤ total (seen_of o x) + brings s (process i) x → (s.ends x).place ≡ place.Owned (process i)
+  pub one : has_of o x + brings s (process i) x ≤ 1
+  pub own : 1 ≤ has_of o x + brings s (process i) x → (s.ends x).place ≡ place.Owned (process i)
 
 -- a process, after so many entries
 pub record IsOwner (version : ℕ) (s : Service) (entries : ℕ) (i : ℕ) (o : Owner) : Type 0 where

@@ -1,5 +1,6 @@
 -- A process between two of its steps: what it keeps, and how far its last call has come.
-use Rattle.std.specs.Prelude.{◌≡◌, ℕ, List, [], ◌∷◌, Option, Some, None, ⊤}
+use Rattle.std.specs.Prelude.{◌≡◌, ℕ, if◌then◌else◌, Option, Some, None, ⊤}
+use Rattle.charlotte_calls.specs.EndEq.{end_eq}
 use Rattle.charlotte_calls.specs.declared.calls.Answer.{Answer}
 use Rattle.charlotte_calls.specs.declared.calls.Call.{Call}
 use Rattle.charlotte_calls.specs.declared.calls.Call.TheVariants as call
@@ -70,6 +71,11 @@ IsAskedFor s (Told c a) = IsCallOf s c
 IsAskedFor s Over = ⊤
 
 -- ---- its ends
+
+-- the end that it asks to destroy is no more in its places
+abbrev pub destroying : EndId → Status → ℕ
+destroying x (Asks (call.Destroy y)) = if end_eq y x then 1 else 0
+destroying x status = 0
 
 abbrev pub turn_of : Owner → Turn
 turn_of o = record { asked = o.state.asked; given = given_of o.status }

@@ -1,0 +1,7 @@
+pub mod Answered
+pub mod Heeding
+pub mod Leading
+pub mod Telling
+pub mod Afterwards
+pub mod Stepping
+pub mod ProcessSteps
