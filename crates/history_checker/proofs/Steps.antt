@@ -1,9 +1,9 @@
 -- What is known of the lines so far goes on with each line.
-use Rattle.std.proofs.Common.{◌≡◌, ◌⊎◌, inl, inr, ℕ, ◌+◌, true, true≢false, List, [], ◌∷◌, ◌++◌, length, Result, Ok, Err, Option, Some, None, refl, sym, ◌∙◌, subst}
+use Rattle.std.proofs.Common.{◌≡◌, ◌⊎◌, inl, inr, ℕ, ◌+◌, true≢false, List, [], ◌∷◌, ◌++◌, length, Result, Ok, Err, Option, Some, None, refl, sym, ◌∙◌, subst}
 use Rattle.std.proofs.lemmas.List.{append_assoc, append-nil, length-append}
 use Rattle.charlotte_text.specs.Reading.{parts}
 use Rattle.history_checker.proofs.Lines.{one_line}
-use Rattle.history_checker.specs.Reading.{HasBegun, HasRead, IsFor, IsRefused, IsSoFar, IsWrong, Reads, answer_of}
+use Rattle.history_checker.specs.Reading.{HasRead, IsFor, IsRefused, IsSoFar, IsWrong, Reads, answer_of}
 use Rattle.history_checker.specs.declared.checker.Checker.{Checker}
 use Rattle.history_run.proofs.Following.{begins, ends_well, fails, goes_on}
 use Rattle.history_run.specs.Follow.{Follows, IsAt, IsNew}
