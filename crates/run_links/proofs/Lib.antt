@@ -1,0 +1,5 @@
+pub mod Wired
+pub mod Checked
+pub mod Loaded
+pub mod Starting
+pub mod Ordered
