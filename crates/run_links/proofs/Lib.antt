@@ -3,3 +3,4 @@ pub mod Checked
 pub mod Loaded
 pub mod Starting
 pub mod Ordered
+pub mod Followed

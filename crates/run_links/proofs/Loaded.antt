@@ -1,9 +1,8 @@
 -- Each process of a plan that was loaded has code that can be run, and as many ends as that has params.
-use Rattle.std.proofs.Common.{arith, ◌≡◌, ◌≤◌, inl, inr, ℕ, List, [], ◌∷◌, length, All, Option, Some, None, Result, Ok, Err, refl, sym, ap, subst, ◌∙◌}
+use Rattle.std.proofs.Common.{arith, ◌≡◌, ◌≤◌, inl, inr, ℕ, List, [], ◌∷◌, length, All, Option, Some, None, Result, Ok, Err, refl, sym, subst, ◌∙◌}
 use Rattle.std.specs.Prelude.{IfOk, codes as text_codes}
 use Rattle.std.specs.List.{AllByRecursion}
 use Rattle.std.proofs.lemmas.List.Elements.{All-head, All-tail}
-use Rattle.charlotte_calls.specs.declared.names.EndId.{EndId}
 use Rattle.compiler_runnable.specs.Runnable.{IsRunnable}
 use Rattle.lynx_code.specs.declared.code.Code.{Code}
 use Rattle.lynx_command.specs.Failures.{failure_of_file}

@@ -1,7 +1,6 @@
 -- The deeds of a run of a plan that was loaded are in order.
 use Rattle.std.proofs.Common.{◌≡◌, ℕ, zero, suc, ◌≤◌, ◌^◌, List, [], ◌∷◌, length, All, Some, None, Ok, sym, ap, ◌∙◌}
 use Rattle.std.specs.Prelude.{slice_get}
-use Rattle.charlotte_calls.specs.Setting.{IsValid}
 use Rattle.charlotte_calls.specs.declared.names.EndId.{EndId}
 use Rattle.charlotte_calls.specs.declared.setting.Setting.{Setting}
 use Rattle.lynx_code.specs.declared.code.Code.{Code}

@@ -49,7 +49,7 @@ module _ (s : Setting) where
     grows j = elim (eqb_tells j k) [
       | inl same ↦
           (let at : slice_index more j ≡ slice_index v.made j + 1 = subst (λ (i : ℕ). slice_index more i ≡ slice_index v.made i + 1) (sym same.1) grown in
-              omega (arith, at))
+          omega (arith, at))
       | inr other ↦ (let at : slice_index v.made j ≡ slice_index more j = sym (get_or-set_other v.made k j (slice_index v.made k + 1) 0 other.1) in omega (arith, at))
     ]
 
@@ -112,14 +112,12 @@ module _ (s : Setting) where
       let short : maker s w < length v.made = omega (arith, makers.0, many) in
       let next : Wired = wires_one s.homes v w in
       let at : first v w short ≡ (wired_behind s before w).end = ap (λ (n : ℕ). first_end (maker s w) n) (made (maker s w) (omega (arith, makers.0, few))) in
-      let stay : (x : EndId) → IsMade next x → (fold (wires_one s.homes) next ws).ends x ≡ next.ends x = λ x is. all_stay ws next x makers.1 (long v w short ∙ many) is in
-      (
-          subst (λ (x : EndId). (((fold (wires_one s.homes) next ws).ends x).place ≡ Owned w.0) × (((fold (wires_one s.homes) next ws).ends (opposite x)).place ≡ Owned w.1)) at
-          (
-              ap (λ (e : End). e.place) (stay (first v w short) (new v w short)) ∙ new_first v w short,
-              ap (λ (e : End). e.place) (stay (opposite (first v w short)) (new v w short)) ∙ new_second v w short,
-          ),
-          links_placed (before ++ w ∷ []) ws next few makers.1 (long v w short ∙ many) (made_so v w short before made),
+      let stay : (x : EndId) → IsMade next x → (fold (wires_one s.homes) next ws).ends x ≡ next.ends x = λ x is. all_stay ws next x makers.1 (long v w short ∙ many) is in (
+        subst (λ (x : EndId). (((fold (wires_one s.homes) next ws).ends x).place ≡ Owned w.0) × (((fold (wires_one s.homes) next ws).ends (opposite x)).place ≡ Owned w.1)) at (
+          ap (λ (e : End). e.place) (stay (first v w short) (new v w short)) ∙ new_first v w short,
+          ap (λ (e : End). e.place) (stay (opposite (first v w short)) (new v w short)) ∙ new_second v w short,
+        ),
+        links_placed (before ++ w ∷ []) ws next few makers.1 (long v w short ∙ many) (made_so v w short before made),
       )
 
 -- ---- the ends of a process
@@ -140,7 +138,7 @@ ends_owned ends p s before (w ∷ ws) placed =
     let x : EndId = (wired_behind s before w).end in
     both_all (λ (y : EndId). (ends y).place ≡ Owned (process p)) (own_of p (wired_behind s before w)) (flat_map (own_of p) (links_behind s (before ++ w ∷ []) ws))
     (both_all (λ (y : EndId). (ends y).place ≡ Owned (process p)) (if w.0.0 == p then x ∷ [] else []) (if w.1.0 == p then opposite x ∷ [] else [])
-        (one_owned ends x w.0 p placed.0.0 (w.0.0 == p) refl) (one_owned ends (opposite x) w.1 p placed.0.1 (w.1.0 == p) refl))
+    (one_owned ends x w.0 p placed.0.0 (w.0.0 == p) refl) (one_owned ends (opposite x) w.1 p placed.0.1 (w.1.0 == p) refl))
     (ends_owned ends p s (before ++ w ∷ []) ws placed.1)
 
 -- ---- there are two of each link at most
@@ -181,7 +179,7 @@ no_end p x s before (w ∷ ws) none =
     let a : EndId = (wired_behind s before w).end in
     both_all (λ (y : EndId). end_eq x y ≡ false) (own_of p (wired_behind s before w)) (flat_map (own_of p) (links_behind s (before ++ w ∷ []) ws))
     (both_all (λ (y : EndId). end_eq x y ≡ false) (if w.0.0 == p then a ∷ [] else []) (if w.1.0 == p then opposite a ∷ [] else [])
-        (one_apart x a a refl none.0 (w.0.0 == p)) (one_apart x (opposite a) a refl none.0 (w.1.0 == p)))
+    (one_apart x a a refl none.0 (w.0.0 == p)) (one_apart x (opposite a) a refl none.0 (w.1.0 == p)))
     (no_end p x s (before ++ w ∷ []) ws none.1)
 
 -- the ends of a link stand before others
