@@ -1,22 +1,25 @@
 -- The deeds of a run of a plan that was loaded are in order.
-use Rattle.std.proofs.Common.{◌≡◌, ℕ, zero, suc, ◌≤◌, ◌^◌, List, [], ◌∷◌, length, All, Some, None, Ok, sym, ap, ◌∙◌}
+use Rattle.std.proofs.Common.{◌≡◌, ℕ, zero, suc, ◌≤◌, ◌^◌, List, [], ◌∷◌, length, All, Some, None, Result, Ok, Err, sym, ap, subst, ◌∙◌}
 use Rattle.std.specs.Prelude.{slice_get}
 use Rattle.charlotte_calls.specs.declared.names.EndId.{EndId}
 use Rattle.charlotte_calls.specs.declared.setting.Setting.{Setting}
 use Rattle.lynx_code.specs.declared.code.Code.{Code}
+use Rattle.lynx_command.specs.Course.{Course, Outside, Took}
 use Rattle.lynx_command.specs.Found.{OutputLines}
 use Rattle.lynx_load.proofs.Starting.{ends_many, programs_many}
 use Rattle.lynx_load.specs.Ends.{ends_of_each}
-use Rattle.lynx_load.specs.Loading.{Loading, Loads}
+use Rattle.lynx_load.specs.Loading.{Loading, Loads, Unloaded}
 use Rattle.lynx_load.specs.Roles.{state_of}
 use Rattle.lynx_load.specs.Started.{AreStarted}
 use Rattle.lynx_load.specs.declared.role.Role.{Role}
 use Rattle.lynx_outside.specs.Files.{IsWithin}
 use Rattle.lynx_outside.specs.Logged.{Read}
-use Rattle.lynx_run.specs.Run.{IsRunOfPlan}
+use Rattle.lynx_outside.specs.declared.status.Status.{Status}
+use Rattle.lynx_run.specs.Run.{FindsRun, IsRunOfPlan, RunsLoaded, RunsPlan}
 use Rattle.process_run.specs.States.{start_of}
 use Rattle.request_acts.proofs.Given.{given-acted}
 use Rattle.request_acts.specs.Acted.{AreActed, programs_of}
+use Rattle.run_links.proofs.Checked.{no_err}
 use Rattle.run_links.proofs.Loaded.{loaded_sound}
 use Rattle.run_links.proofs.Starting.{plan_wired}
 use Rattle.run_links.specs.Ordered.{ActsAreInOrder, HasRequestsInOrder, plan_programs}
@@ -53,3 +56,17 @@ requests-in-order name reads x turns output all loads within is few =
           all x.plan.setting (plan_programs x) is.run.merged is.run.replayed.steps is.run.lawful told.setting told.values.entries few
           (plan_wired x (loaded_sound name x reads loads within) told.setting) acted;
     }
+
+-- ---- what the command finds
+
+-- a text is that of a run of what was loaded
+found-run : (name : List ℕ) (turns : ℕ) (course : Course) (output : OutputLines) (found : Result Loading Unloaded) → Loads name course.reads found → RunsLoaded turns found course → course.found ≡ Ok output
+    → (x : Loading) × Loads name course.reads (Ok x) × IsRunOfPlan x turns output
+found-run name turns course output (Ok x) loads runs is = (x, loads, subst (FindsRun x turns) is runs)
+found-run name turns course output (Err fault) loads runs is = absurd (no_err output fault.failure course.found is runs.0)
+
+pub found-in-order : (name : List ℕ) (turns : ℕ) (course : Course) (ended : Status) (old new : Outside) (output : OutputLines) → ActsAreInOrder → RunsPlan name turns course → Took course ended old new
+    → course.found ≡ Ok output → (x : Loading) × (is : IsRunOfPlan x turns output) × (length is.run.merged ≤ 2 ^ 28 → HasRequestsInOrder x turns output is)
+found-in-order name turns course ended old new output all runs took found =
+    let run = found-run name turns course output runs.0 runs.1 runs.2 found in
+    (run.0, run.2, λ few. requests-in-order name course.reads run.0 turns output all run.1 took.reads.within run.2 few)
