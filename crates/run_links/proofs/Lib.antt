@@ -1,0 +1,6 @@
+pub mod Wired
+pub mod Checked
+pub mod Loaded
+pub mod Starting
+pub mod Ordered
+pub mod Followed
