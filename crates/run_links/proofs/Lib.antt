@@ -3,4 +3,3 @@ pub mod Checked
 pub mod Loaded
 pub mod Starting
 pub mod Ordered
-pub mod Followed

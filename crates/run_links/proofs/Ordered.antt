@@ -22,7 +22,8 @@ use Rattle.request_acts.specs.Acted.{AreActed, programs_of}
 use Rattle.run_links.proofs.Checked.{no_err}
 use Rattle.run_links.proofs.Loaded.{loaded_sound}
 use Rattle.run_links.proofs.Starting.{plan_wired}
-use Rattle.run_links.specs.Ordered.{ActsAreInOrder, HasRequestsInOrder, plan_programs}
+use Rattle.followed_links.proofs.Whole.{run-in-order}
+use Rattle.run_links.specs.Ordered.{HasRequestsInOrder, plan_programs}
 
 -- each program is the one of its process
 started-at : (version : ℕ) (codes : List Code) (each : List (List EndId)) (roles : List Role) → AreStarted version codes each roles → (i : ℕ) (was : Role) → slice_get roles i ≡ Some was
@@ -45,16 +46,16 @@ module _ (x : Loading) (turns : ℕ) (output : OutputLines) (is : IsRunOfPlan x 
       given-acted s is.programs state_of (plan_programs x) is.run.merged is.run.replayed.steps (programs_many s.version x.codes (ends_of_each s) is.programs is.started ∙ ends_many s 0 s.homes)
       (started-at s.version x.codes (ends_of_each s) is.programs is.started) is.run.replayed.replays is.run.one.events is.run.one.recorded
 
-pub requests-in-order : (name : List ℕ) (reads : List Read) (x : Loading) (turns : ℕ) (output : OutputLines) → ActsAreInOrder → Loads name reads (Ok x) → All IsWithin reads
+pub requests-in-order : (name : List ℕ) (reads : List Read) (x : Loading) (turns : ℕ) (output : OutputLines) → Loads name reads (Ok x) → All IsWithin reads
     → (is : IsRunOfPlan x turns output) → length is.run.merged ≤ 2 ^ 28 → HasRequestsInOrder x turns output is
-requests-in-order name reads x turns output all loads within is few =
+requests-in-order name reads x turns output loads within is few =
     let told = is.run.told.told in
     let acted = run-acted x turns output is in
     record {
       acted = acted;
       in_order =
-          all x.plan.setting (plan_programs x) is.run.merged is.run.replayed.steps is.run.lawful told.setting told.values.entries few
-          (plan_wired x (loaded_sound name x reads loads within) told.setting) acted;
+          run-in-order x.plan.setting (plan_programs x) is.run.merged is.run.replayed.steps told.setting told.values.entries few
+          (plan_wired x (loaded_sound name x reads loads within) told.setting) is.run.lawful acted;
     }
 
 -- ---- what the command finds
@@ -65,8 +66,8 @@ found-run : (name : List ℕ) (turns : ℕ) (course : Course) (output : OutputLi
 found-run name turns course output (Ok x) loads runs is = (x, loads, subst (FindsRun x turns) is runs)
 found-run name turns course output (Err fault) loads runs is = absurd (no_err output fault.failure course.found is runs.0)
 
-pub found-in-order : (name : List ℕ) (turns : ℕ) (course : Course) (ended : Status) (old new : Outside) (output : OutputLines) → ActsAreInOrder → RunsPlan name turns course → Took course ended old new
+pub found-in-order : (name : List ℕ) (turns : ℕ) (course : Course) (ended : Status) (old new : Outside) (output : OutputLines) → RunsPlan name turns course → Took course ended old new
     → course.found ≡ Ok output → (x : Loading) × (is : IsRunOfPlan x turns output) × (length is.run.merged ≤ 2 ^ 28 → HasRequestsInOrder x turns output is)
-found-in-order name turns course ended old new output all runs took found =
+found-in-order name turns course ended old new output runs took found =
     let run = found-run name turns course output runs.0 runs.1 runs.2 found in
-    (run.0, run.2, λ few. requests-in-order name course.reads run.0 turns output all run.1 took.reads.within run.2 few)
+    (run.0, run.2, λ few. requests-in-order name course.reads run.0 turns output run.1 took.reads.within run.2 few)

@@ -1,9 +1,5 @@
 -- What is claimed of each run of a plan: its requests and replies are in order.
-use Rattle.std.specs.Prelude.{ℕ, ◌≤◌, ◌^◌, List, length, All}
-use Rattle.charlotte_calls.specs.Setting.{IsValid}
-use Rattle.charlotte_calls.specs.declared.setting.Setting.{Setting}
-use Rattle.kernel_entries.specs.Ranges.{IsPlacedInRange}
-use Rattle.kernel_entries.specs.declared.entry.Placed.{Placed}
+use Rattle.std.specs.Prelude.{ℕ}
 use Rattle.language_links.specs.Acting.{Program}
 use Rattle.language_links.specs.Claims.{AreInOrder}
 use Rattle.lynx_command.specs.Found.{OutputLines}
@@ -11,19 +7,10 @@ use Rattle.lynx_load.specs.Ends.{ends_of_each}
 use Rattle.lynx_load.specs.Loading.{Loading}
 use Rattle.lynx_run.specs.Run.{IsRunOfPlan}
 use Rattle.request_acts.specs.Acted.{AreActed, deeds_of, programs_of}
-use Rattle.request_acts.specs.Claimed.{AreWired}
-use Rattle.theorem.specs.Record.{IsLawfulRecord}
 
 -- the programs of the processes of a plan: the code of each module, with the ends that the wires give its process
 abbrev pub plan_programs : Loading → ℕ → Program
 plan_programs x = programs_of x.codes (ends_of_each x.plan.setting)
-
--- requests and replies are in order in each replay of processes that begin with their own ends and sound code. This is not proved yet
-abbrev pub ActsAreInOrder : Type 0
-ActsAreInOrder =
-    (s : Setting) (programs : ℕ → Program) (merged : List Placed) (steps : ℕ → ℕ) → IsLawfulRecord s merged
-    → IsValid s → All IsPlacedInRange merged → length merged ≤ 2 ^ 28 → AreWired s programs
-    → (acted : AreActed s programs merged steps) → AreInOrder (deeds_of s programs merged steps acted)
 
 -- the deeds of a run of a plan are in order
 pub record HasRequestsInOrder (x : Loading) (turns : ℕ) (output : OutputLines) (is : IsRunOfPlan x turns output) : Type 0 where

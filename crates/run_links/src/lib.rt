@@ -4,9 +4,7 @@
 //! Of each run by the command `run` of a plan that was loaded, with at most 2^28 entries, there is one replay of all processes over the entries of its
 //! transcript, in which each runs the code of its module from the ends that the wires give it; and the deeds in it are in order on each link: each request is
 //! accepted at most once, in order, and each reply goes to its request (`requests_of_a_run_are_in_order`, `HasRequestsInOrder` in `specs/Ordered.antt`).
-//!
-//! It rests on the claim that deeds are so in each replay of processes that begin with their own ends and with sound code (`ActsAreInOrder`), which is not
-//! proved yet. That the processes of a loaded plan begin so is proved here.
+//! It stands on the law of `followed_links`. That the processes of a loaded plan begin with their own ends and with code that can be run is proved here.
 #![tactic(auto)]
 
 mod law;
