@@ -139,7 +139,7 @@ below-or-above count i = by (leb_tells count i)
     by (inl above) = inr above.1
     by (inr below) = inl below.1
 
-room-of : (version count n : ℕ) (s : Service) (os : Owners) (deeds : EndId → List Deed) → Stands version count s n os deeds → HasRoom count n os
+pub room-of : (version count n : ℕ) (s : Service) (os : Owners) (deeds : EndId → List Deed) → Stands version count s n os deeds → HasRoom count n os
 room-of version count n s os deeds is i below = let f = (is.owners.each i below).few in omega (arith, f)
 
 module _ (g : Setting) (version count : ℕ) (keep : StepsKeep version count) (s : Service) (n : ℕ) (e : Placed) (part : List (ServiceStep × Service)) (entry : IsEntry g s e part) where

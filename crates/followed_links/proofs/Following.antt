@@ -58,7 +58,7 @@ pub record ServiceMoves : Type 0 where
   pub consistent : (s : Service) (made : ServiceStep) (t : Service) → IsConsistent s → IsServiceStep s made t → IsConsistent t
 
 -- a step more at most
-steps-grow : {home : ℕ → ℕ} {n : ℕ} {f g : Fleet} {es : List Placed} {ds : List Done} → Acts home n f es ds g → (i : ℕ) → (f i).replayed.steps ≤ (g i).replayed.steps
+pub steps-grow : {home : ℕ → ℕ} {n : ℕ} {f g : Fleet} {es : List Placed} {ds : List Done} → Acts home n f es ds g → (i : ℕ) → (f i).replayed.steps ≤ (g i).replayed.steps
 steps-grow (Rests n f) i = omega arith
 steps-grow (Pauses n f p given es ds g pausing acts) i = by (nat_eq p.0 i) refl (steps-grow acts i)
   where
@@ -129,7 +129,7 @@ module _ (g : Setting) (version count : ℕ) (counted : length g.homes ≡ count
     d = did now.replayed.state given
 
     -- what it is given is what it was told
-    stepped : IsGiven now.replayed.last now.replayed.heard given → IsStepped version count s n (owners f) is.deeds p.0 d
+    pub stepped : IsGiven now.replayed.last now.replayed.heard given → IsStepped version count s n (owners f) is.deeds p.0 d
     stepped is_given =
         let may = given-is now.replayed.last now.replayed.heard given is_given in
         subst (λ (o : Option Answer). IsStepped version count s n (owners f) is.deeds p.0 (did now.replayed.state o)) (sym may.1)
@@ -181,6 +181,11 @@ module _ (g : Setting) (version count : ℕ) (counted : length g.homes ≡ count
             (weaves-on s (since_of f) past is.deeds is.woven p.0 d.deeds one-step.elsewhere);
       }
 
+      -- with these deeds
+      pub pauses-deeds : pauses-follow.deeds ≡ (λ x. is.deeds x ++ deeds_at x d.deeds)
+      unfolding pauses-follow
+      pauses-deeds = refl
+
   -- ---- an entry
 
   heard-same : {X : Type 0} (part_of : Acting → X) → ((i : ℕ) (e : Placed) (x : Acting) → part_of (heard_by i e.entry x) ≡ part_of x) → (e : Placed) (f : Fleet) (i : ℕ) → part_of (hears_entry (home_of g) e f i) ≡ part_of (f i)
@@ -193,7 +198,7 @@ module _ (g : Setting) (version count : ℕ) (counted : length g.homes ≡ count
   last-same : (e : Placed) (f : Fleet) (i : ℕ) → (hears_entry (home_of g) e f i).replayed.last ≡ (f i).replayed.last
   last-same = heard-same (λ z. z.replayed.last) (λ i e x. refl)
 
-  since-same : (e : Placed) (f : Fleet) (i : ℕ) → since_of (hears_entry (home_of g) e f) i ≡ since_of f i
+  pub since-same : (e : Placed) (f : Fleet) (i : ℕ) → since_of (hears_entry (home_of g) e f) i ≡ since_of f i
   since-same = heard-same (λ z. z.since) (λ i e x. refl)
 
   told-so : (e : Placed) (f : Fleet) (i : ℕ) → IsTold (given_of (status_of (f i).replayed.last (hears_by (process i) (f i).replayed.heard (call_of (process i) e.entry.what) e.entry.steps)))
@@ -209,7 +214,7 @@ module _ (g : Setting) (version count : ℕ) (counted : length g.homes ≡ count
     t = state_after s part
 
     -- a packet is taken
-    taken-uncalled : (w : Happened) → e.entry.what ≡ w → ((p : Pid) → call_of p e.entry.what ≡ None) → AllByRecursion IsUncalled e.entry.steps
+    pub taken-uncalled : (w : Happened) → e.entry.what ≡ w → ((p : Pid) → call_of p e.entry.what ≡ None) → AllByRecursion IsUncalled e.entry.steps
     taken-uncalled (Took from picture) what none = subst (λ (w : Happened). AreOfEntry g e.kernel w e.entry.steps) what entry.own
     taken-uncalled (Asked p c) what none =
         let no : Some c ≡ None = sym (ap (λ (w : Happened). call_of p w) what ∙ own-call p c) ∙ none p in absurd cc
@@ -229,6 +234,10 @@ module _ (g : Setting) (version count : ℕ) (counted : length g.homes ≡ count
               (subst (λ (l : List ServiceStep). AllByRecursion IsUncalled l) (sym entry.steps) un) is.woven);
         }
 
+    pub takes-deeds : (none : (p : Pid) → call_of p e.entry.what ≡ None) → (takes-follow none).deeds ≡ is.deeds
+    unfolding takes-follow
+    takes-deeds none = refl
+
     -- a process calls
     module _ (few : n ≤ 2 ^ 28) (p : Pid) (given : Option Answer) (c : Call) (own : e.kernel ≡ home_of g p.0) (is_call : call_of p e.entry.what ≡ Some c) (asking : IsAsking (f p.0) given c) where
       what-is : e.entry.what ≡ Asked p c
@@ -245,7 +254,7 @@ module _ (g : Setting) (version count : ℕ) (counted : length g.homes ≡ count
               by_same true same one = what ∙ ap (λ (i : ℕ). Asked (record { 0 = i }) d) (sym (eqb-true p.0 q.0 same)) ∙ ap (Asked p) (same_call one)
               by_same false other one = let no : None ≡ Some c = one in absurd cc
 
-      of-entry : AreOfEntry g e.kernel (Asked p c) e.entry.steps
+      pub of-entry : AreOfEntry g e.kernel (Asked p c) e.entry.steps
       of-entry = subst (λ (w : Happened). AreOfEntry g e.kernel w e.entry.steps) what-is entry.own
 
       abbrev later : Fleet
@@ -254,10 +263,10 @@ module _ (g : Setting) (version count : ℕ) (counted : length g.homes ≡ count
       abbrev done : Did
       done = did (f p.0).replayed.state given
 
-      below : p.0 < count
+      pub below : p.0 < count
       below = subst (λ (k : ℕ). p.0 < k) counted of-entry.0
 
-      call-step : IsStepped version count s n (owners f) is.deeds p.0 done
+      pub call-step : IsStepped version count s n (owners f) is.deeds p.0 done
       call-step = stepped s n f past is few p below given asking.is_given
 
       abbrev deeds_now : EndId → List Deed
@@ -267,11 +276,11 @@ module _ (g : Setting) (version count : ℕ) (counted : length g.homes ≡ count
       abbrev asker : Owner
       asker = record { state = done.state; status = Asks c }
 
-      asked : Stands version count s n (with_owner p.0 asker (owners f)) deeds_now
+      pub asked : Stands version count s n (with_owner p.0 asker (owners f)) deeds_now
       asked =
           subst (λ (m : Next). Stands version count s n (with_owner p.0 (record { state = done.state; status = after_step m }) (owners f)) deeds_now) asking.asks call-step.stands
 
-      mine : IsMine s p.0 c
+      pub mine : IsMine s p.0 c
       mine = call-step.mine c asking.asks
 
       has-bytes : (b : Call) → IsCallInRange b → HasBytes b
@@ -284,7 +293,7 @@ module _ (g : Setting) (version count : ℕ) (counted : length g.homes ≡ count
       has-bytes (call.Print bytes) in_range = tt
       has-bytes call.Exit in_range = tt
 
-      bytes : HasBytes c
+      pub bytes : HasBytes c
       bytes = has-bytes c (subst IsHappenedInRange what-is range.entry.what).1
 
       here : nat_eq (home_of g p.0) e.kernel ≡ true
@@ -302,14 +311,14 @@ module _ (g : Setting) (version count : ℕ) (counted : length g.homes ≡ count
       abbrev past_after : List Done
       past_after = past ++ done_by p n (deeds_before given (f p.0))
 
-      woven-first : AreWoven s since_after past_after deeds_now
+      pub woven-first : AreWoven s since_after past_after deeds_now
       woven-first = weaves-call s (since_of f) past is.deeds is.woven p.0 done.deeds call-step.elsewhere n
 
-      quiet : since_after p.0 ≡ []
+      pub quiet : since_after p.0 ≡ []
       quiet = ap (λ (b : Bool). if b then [] else since_of f p.0) (eq-eqb p.0 p.0 refl)
 
       -- the first step of the call
-      own-first : (made : ServiceStep) → IsFirst p.0 c made → IsOwnStep s p.0 made
+      pub own-first : (made : ServiceStep) → IsFirst p.0 c made → IsOwnStep s p.0 made
       own-first made (inl refused) = record {
         sends = λ x m l xs is_so. absurd (apart-send refused.0 x m l xs (sym refused.1 ∙ is_so));
         destroys = λ x is_so. absurd (apart-destroy refused.0 x (sym refused.1 ∙ is_so));
@@ -381,7 +390,7 @@ module _ (g : Setting) (version count : ℕ) (counted : length g.homes ≡ count
       fits : IsAskedFor done.state (Asks c)
       fits = subst (λ (o : Owner). IsAskedFor o.state o.status) (ap (λ (b : Bool). if b then asker else owner_of (f p.0)) (eq-eqb p.0 p.0 refl)) (asked.owners.each p.0 below).asked
 
-      cancels-none : (made : ServiceStep) → IsFirst p.0 c made → (x : EndId) → cancels_send x made ≡ false
+      pub cancels-none : (made : ServiceStep) → IsFirst p.0 c made → (x : EndId) → cancels_send x made ≡ false
       cancels-none made (inl refused) x = ap (cancels_send x) refused.1
       cancels-none made (inr so) x = not-outward c fits made so x
 
@@ -411,7 +420,7 @@ module _ (g : Setting) (version count : ℕ) (counted : length g.homes ≡ count
           nothing-left [] none = refl
           nothing-left (x ∷ l) none = let no : x.0 ∷ steps_in l ≡ [] = none in absurd cc
 
-      since-later : (i : ℕ) → since_after i ≡ since_of later i
+      pub since-later : (i : ℕ) → since_after i ≡ since_of later i
       since-later i = by (nat_eq p.0 i) ∙ sym (since-same e (asked_by p given f) i)
         where
           by : (b : Bool) → (if b then [] else since_of f i) ≡ since_of (λ (j : ℕ). if b then called given (f p.0) else f j) i
@@ -455,6 +464,10 @@ module _ (g : Setting) (version count : ℕ) (counted : length g.homes ≡ count
         told = told-later;
         woven = subst (λ (l : ℕ → List DeedOn). AreWoven t l past_after deeds_now) (same-since since_after (since_of later) since-later) woven-after;
       }
+
+      pub calls-deeds : calls-follow.deeds ≡ deeds_now
+      unfolding calls-follow
+      calls-deeds = refl
 
   -- ---- all entries
 

@@ -7,8 +7,8 @@
 //! deeds are those of its program's steps (`each_makes_a_process_run`). The deeds are a function of the entries and of how many steps each process made
 //! (`deeds_are_determined`). `AreReplayed`, `AreActed`, `deeds_of` and `IsRunBy` in `specs/Acted.antt`.
 //!
-//! That the deeds are as `language_links` claims is `ActsAreLinked` in `specs/Claimed.antt`: `followed_links` proves it of requests and replies. Of the ends that
-//! they carry it is not proved yet.
+//! That the deeds are as `language_links` claims is `ActsAreLinked` in `specs/Claimed.antt`: `followed_links` proves it of requests and replies, and
+//! `carried_ends` of the ends that they carry, but for one case.
 #![tactic(auto)]
 
 mod law;

@@ -1,0 +1,21 @@
+-- The law on each run.
+use Rattle.std.proofs.Common.{ℕ, ◌≤◌, ◌^◌, List, All, length}
+use Rattle.std.specs.List.{AllByRecursion}
+use Rattle.charlotte_calls.specs.Setting.{IsValid}
+use Rattle.charlotte_calls.specs.declared.setting.Setting.{Setting}
+use Rattle.kernel_entries.specs.Ranges.{IsPlacedInRange}
+use Rattle.kernel_entries.specs.declared.entry.Placed.{Placed}
+use Rattle.theorem.specs.Record.{IsLawfulRecord}
+use Rattle.language_links.specs.Acting.{Program}
+use Rattle.language_links.specs.Claims.{AreWith}
+use Rattle.request_acts.specs.Acted.{AreActed, deeds_of}
+use Rattle.request_acts.specs.Claimed.{AreWired, states_of}
+use Rattle.followed_links.proofs.Services.{moving, services}
+use Rattle.followed_links.proofs.Starting.{start-follows}
+use Rattle.followed_links.proofs.Whole.{processes}
+use Rattle.carried_ends.proofs.UnderWayCarried.{all-arrive}
+
+pub run-arrives : (s : Setting) (programs : ℕ → Program) (merged : List Placed) (steps : ℕ → ℕ) → IsValid s → All IsPlacedInRange merged → length merged ≤ 2 ^ 28 → AreWired s programs
+    → (lawful : IsLawfulRecord s merged) → (acted : AreActed s programs merged steps) → AllByRecursion (AreWith (states_of s merged lawful)) (deeds_of s programs merged steps acted)
+run-arrives s programs merged steps valid range few wired lawful acted =
+    (all-arrive s (services s.version (length s.homes)) (processes s.version (length s.homes)) moving programs merged steps lawful valid range few (start-follows s programs valid wired) acted).arrived
