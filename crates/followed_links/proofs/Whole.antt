@@ -6,8 +6,6 @@ use Rattle.charlotte_calls.specs.declared.setting.Setting.{Setting}
 use Rattle.kernel_entries.specs.Ranges.{IsPlacedInRange}
 use Rattle.kernel_entries.specs.declared.entry.Placed.{Placed}
 use Rattle.theorem.specs.Record.{IsLawfulRecord}
-use Rattle.service_custody.proofs.Coming.{deaf-nothing}
-use Rattle.process_changes.proofs.Steps.{step_changes}
 use Rattle.language_links.specs.Acting.{Program}
 use Rattle.language_links.specs.Claims.{AreInOrder}
 use Rattle.request_acts.specs.Acted.{AreActed, deeds_of}
@@ -18,14 +16,10 @@ use Rattle.followed_links.proofs.Following.{ProcessesKeep}
 use Rattle.run_process_steps.proofs.ProcessSteps.{step_stands}
 use Rattle.followed_links.proofs.Services.{moving, services}
 use Rattle.followed_links.proofs.Starting.{start-follows}
-use Rattle.run_process_steps.proofs.Stepping.{Lemmas}
-
-lemmas : Lemmas
-lemmas = record { steps_change = step_changes; deaf_ends_get_nothing = deaf-nothing }
 
 pub processes : (version count : ℕ) → ProcessesKeep version count
 processes version count = record {
-  steps = λ s n os deeds i is few below may told. step_stands lemmas version count s n os deeds is few i below may told;
+  steps = λ s n os deeds i is few below may told. step_stands version count s n os deeds is few i below may told;
 }
 
 pub run-followed : (s : Setting) (programs : ℕ → Program) (merged : List Placed) (steps : ℕ → ℕ) → IsValid s → All IsPlacedInRange merged → length merged ≤ 2 ^ 28 → AreWired s programs → IsLawfulRecord s merged

@@ -36,7 +36,7 @@ deeds_elsewhere x y (d ∷ ds) apart =
     let rest : List DeedOn = filter (λ (e : DeedOn). end_eq e.on y) (deeds_on x ds) in
     ap (λ (b : Bool). map (λ (e : DeedOn). e.deed) (cond b (record { on = x; deed = d } ∷ rest) rest)) apart ∙ deeds_elsewhere x y ds apart
 
-deeds_both : (y : EndId) (ds es : List DeedOn) → deeds_at y (ds ++ es) ≡ deeds_at y ds ++ deeds_at y es
+pub deeds_both : (y : EndId) (ds es : List DeedOn) → deeds_at y (ds ++ es) ≡ deeds_at y ds ++ deeds_at y es
 deeds_both y ds es =
     ap (map (λ (d : DeedOn). d.deed)) (filter-append (λ (d : DeedOn). end_eq d.on y) ds es)
     ∙ map-append (λ (d : DeedOn). d.deed) (filter (λ (d : DeedOn). end_eq d.on y) ds) (filter (λ (d : DeedOn). end_eq d.on y) es)

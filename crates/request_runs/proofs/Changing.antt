@@ -23,7 +23,7 @@ use Rattle.process_changes.proofs.AtEnd.{change_less}
 use Rattle.request_runs.specs.Changing.{Becomes, IsHearing, IsReceiving, IsStandingOf, StandsWith}
 use Rattle.request_runs.specs.Sides.{Courses, Destroyed, Does, Events, Free, Goes, Held, Holds, LetsGo, Loses, Lost, Pair, Rests, Side, Standing, did, stands}
 
-may_happen : (h : Happening) (k : Kept) → MayDo h k → MayHappen h k
+pub may_happen : (h : Happening) (k : Kept) → MayDo h k → MayHappen h k
 may_happen (Connects c) k may = (may.0, record { each = may.1; few = may.2 })
 may_happen (Replies r) k may = record { each = may.0; few = may.1 }
 may_happen (Accepts a) k may = tt
@@ -65,7 +65,7 @@ receiving_bound : (b : Binding) (k : Kept) (c : Bool) → (if c then k else reco
 receiving_bound b k true = refl
 receiving_bound b k false = refl
 
-receiving_done : (version : ℕ) (h : Happening) (k : Kept) → MayDo h k → (after version h k).receiving ≡ k.receiving
+pub receiving_done : (version : ℕ) (h : Happening) (k : Kept) → MayDo h k → (after version h k).receiving ≡ k.receiving
 receiving_done version (Connects c) k may = receiving_lined version (record c { number = later k.last }) (record k { last = later k.last })
 receiving_done version (Replies r) k may = receiving_replied version r k
 receiving_done version (Accepts a) k may = refl
@@ -80,7 +80,7 @@ receiving_done version ReceiveOver k may = absurd may
 receiving_done version CancelLate k may = absurd may
 receiving_done version happenings.Dies k may = absurd may
 
-receiving_settled : (room : Bool) (k : Kept) → (settled room k).receiving ≡ k.receiving
+pub receiving_settled : (room : Bool) (k : Kept) → (settled room k).receiving ≡ k.receiving
 unfolding allows
 receiving_settled room k = by_forbade k.forbade
   where
@@ -97,7 +97,7 @@ neither : (a b : Bool) → a || b ≡ false → (a ≡ false) × (b ≡ false)
 neither false b e = (refl, e)
 neither true b e = let no : true ≡ false = e in absurd cc
 
-rests_deaf : (k : Kept) → is_busy k ≡ false → is_deaf k.receiving ≡ false → ⊥
+pub rests_deaf : (k : Kept) → is_busy k ≡ false → is_deaf k.receiving ≡ false → ⊥
 unfolding is_busy
 rests_deaf k rests hears =
     let eight = neither _ (not (is_nil k.accepts)) rests in
@@ -116,7 +116,7 @@ not_destroyed s k held gone = let no : Held k ≡ Destroyed = sym held ∙ gone 
 pub not_lost : (s : Standing) (k : Kept) → s ≡ Held k → s ≡ Lost → ⊥
 not_lost s k held lost = let no : Held k ≡ Lost = sym held ∙ lost in cc
 
-free_not_lost : (s : Standing) → s ≡ Free → s ≡ Lost → ⊥
+pub free_not_lost : (s : Standing) → s ≡ Free → s ≡ Lost → ⊥
 free_not_lost s free lost = let no : Free ≡ Lost = sym free ∙ lost in cc
 
 -- ---- one change
@@ -230,7 +230,7 @@ module _ (version : ℕ) (p : Pair) where
 -- ---- all changes
 
 module _ (version : ℕ) where
-  onward : (p q r : Pair) → Courses version p q → Courses version q r → Courses version p r
+  pub onward : (p q r : Pair) → Courses version p q → Courses version q r → Courses version p r
   onward p q r first (Rests s) = first
   onward p q r first (Goes s m u others event) = Goes p m r (onward p q m first others) event
 

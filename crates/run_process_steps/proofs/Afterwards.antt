@@ -201,19 +201,20 @@ left_less x (next.Ask call.Wait) l m e = same_doomed x l m e
 left_less x (next.Ask (call.Print bytes)) l m e = same_doomed x l m e
 left_less x (next.Ask call.Exit) l m e = same_doomed x l m e
 
--- no more than at the end of the changes
-pub record IsLast (x : EndId) (b : Ledger) (c : Seen) (asked : ℕ) : Type 0 where
+-- no more than at the end of the changes, with what is in its call
+pub record IsLast (x : EndId) (called : ℕ) (b : Ledger) (c : Seen) : Type 0 where
   pub holding : c.holding ≡ (seen x b).holding
   pub out : c.out ≤ (seen x b).out
-  -- with the end that the call destroys
-  pub all : total c + asked ≤ total (seen x b)
+  pub all : total c + called ≤ total (seen x b)
 
-last_seen : (x : EndId) (b : Ledger) (t : State) (asked : ℕ) → b.places ≡ t.places → how_often x t.doomed + asked ≤ how_often x b.doomed → IsLast x b (seen x (ledger t [])) asked
-last_seen x b t asked same less =
+last_seen : (x : EndId) (called : ℕ) (b : Ledger) (t : State) → b.places ≡ t.places → how_often x t.doomed + called ≤ how_often x b.doomed → IsLast x called b (seen x (ledger t []))
+last_seen x called b t same less =
     let held : holding_at x t.places ≡ holding_at x b.places = ap (λ (ps : List Place). holding_at x ps) (sym same) in
     let count : held_count (holding_at x t.places) ≡ held_count (holding_at x b.places) = ap held_count held in
     let load : how_often x (carried_at t.places) ≡ how_often x (carried_at b.places) = ap (λ (ps : List Place). how_often x (carried_at ps)) (sym same) in
     record { holding = held; out = omega (arith, load); all = omega (arith, load, count, less) }
 
-pub step_last : (x : EndId) (s : State) (given : Option Answer) (d : Did) → (is : ChangesByStep s given d) → IsLast x is.last (seen_of (owner_after d) x) (destroying x (after_step d.next))
-step_last x s given d is = subst (λ (c : Seen). IsLast x is.last c (destroying x (after_step d.next))) (sym (seen_then x d.state d.next)) (last_seen x is.last d.state (destroying x (after_step d.next)) is.places (left_less x d.next is.last.doomed d.state.doomed is.left))
+pub step_last : (x : EndId) (s : State) (given : Option Answer) (d : Did) → (is : ChangesByStep s given d) → IsLast x (destroying x (after_step d.next)) is.last (seen_of (owner_after d) x)
+step_last x s given d is =
+    subst (λ (c : Seen). IsLast x (destroying x (after_step d.next)) is.last c) (sym (seen_then x d.state d.next))
+    (last_seen x (destroying x (after_step d.next)) is.last d.state is.places (left_less x d.next is.last.doomed d.state.doomed is.left))

@@ -1,131 +1,32 @@
 -- The changes of a process at an end that it owns are events at the link of that end.
-use Rattle.std.proofs.Common.{arith, ◌≡◌, ◌⊎◌, inl, inr, ⊎_elim, ◌≤◌, ℕ, suc, ◌+◌, Bool, true, false, ◌||◌, if◌then◌else◌, List, [], ◌∷◌, ◌++◌, Option, Some, None, refl, sym, ap, subst, ◌∙◌, append-nil, append_assoc}
-use Rattle.std.specs.Prelude.{is_some, not}
-use Rattle.end_protocol.specs.declared.kept.Binding.{Binding}
-use Rattle.end_protocol.specs.declared.kept.Forbade.{Forbade}
+use Rattle.std.proofs.Common.{arith, ◌≡◌, ◌⊎◌, inl, inr, ⊎_elim, ◌≤◌, ℕ, suc, ◌+◌, Bool, false, List, [], ◌++◌, refl, sym, ap, subst, ◌∙◌, append-nil, append_assoc}
 use Rattle.end_protocol.specs.declared.kept.Kept.{Kept}
-use Rattle.end_protocol.specs.declared.kept.Response.{Response}
-use Rattle.end_protocol.specs.declared.messages.Connect.{Connect}
-use Rattle.end_protocol.specs.Asking.{asked, is_bound, is_owed, later, lined_up, replied, replies}
 use Rattle.end_protocol.specs.Deeds.{Deed}
-use Rattle.end_protocol.specs.Going.{allows, is_allow_due, returns, settled, settled_with}
-use Rattle.end_protocol.specs.Happenings.{Accepts, Binds, CancelLate, Connects, Happening, ReceiveOver, Receives, Replies, SendOver, Unbinds, after, deeds_of}
+use Rattle.end_protocol.specs.Going.{returns, settled}
+use Rattle.end_protocol.specs.Happenings.{after, deeds_of}
 use Rattle.end_protocol.specs.Happenings as happenings
 use Rattle.end_protocol.specs.Kept.{fresh}
-use Rattle.end_protocol.specs.Lists.{is_nil}
 use Rattle.end_protocol.specs.Wanting.{is_busy, is_deaf}
-use Rattle.request_meaning.specs.Links.{MayHappen}
 use Rattle.process_run.specs.States.{Gone, Holding, Keeps}
-use Rattle.process_changes.specs.Changes.{IsWhole, MayDo}
+use Rattle.process_changes.specs.Changes.{IsWhole}
 use Rattle.process_changes.specs.AtEnd.{ChangeAt, ChangesAt, Seen, held_count, total}
 use Rattle.process_changes.specs.AtEnd as at_end
 use Rattle.process_changes.proofs.AtEnd.{change_less}
+use Rattle.request_runs.proofs.Changing.{free_not_lost, may_happen, not_destroyed, not_lost, onward, receiving_done, receiving_settled, rests_deaf}
 use Rattle.request_runs.specs.Sides.{Courses, Destroyed, Does, Events, Free, Goes, Held, Holds, LetsGo, Loses, Lost, Pair, Rests, Side, Standing, did, stands}
 use Rattle.end_protocol.specs.declared.kept.Receiving.{Receiving}
 use Rattle.end_protocol.specs.declared.kept.Receiving.TheVariants as receiving
 use Rattle.run_invariant.specs.Invariant.{IsStandingIn}
 use Rattle.run_process_steps.proofs.Heeding.{IsHeard}
 
-may_happen : (h : Happening) (k : Kept) → MayDo h k → MayHappen h k
-may_happen (Connects c) k may = (may.0, record { each = may.1; few = may.2 })
-may_happen (Replies r) k may = record { each = may.0; few = may.1 }
-may_happen (Accepts a) k may = tt
-may_happen (Binds b) k may = tt
-may_happen (Unbinds entry) k may = tt
-may_happen (happenings.Hears room packet xs) k may = absurd may
-may_happen (happenings.Settles room) k may = absurd may
-may_happen happenings.Sends k may = absurd may
-may_happen SendOver k may = absurd may
-may_happen Receives k may = absurd may
-may_happen ReceiveOver k may = absurd may
-may_happen CancelLate k may = absurd may
-may_happen happenings.Dies k may = absurd may
-
--- ---- what a thread does leaves the receive as it is
-
-receiving_asked : (version : ℕ) (c : Connect) (k : Kept) → (asked version c k).receiving ≡ k.receiving
-unfolding asked
-receiving_asked version c k = refl
-
-receiving_lined : (version : ℕ) (c : Connect) (k : Kept) → (lined_up version c k).receiving ≡ k.receiving
-unfolding lined_up
-receiving_lined version c k = by_test (is_some k.outstanding)
-  where
-    by_test : (b : Bool) → (if b then record k { behind = k.behind ++ c ∷ [] } else asked version c k).receiving ≡ k.receiving
-    by_test true = refl
-    by_test false = receiving_asked version c k
-
-receiving_replied : (version : ℕ) (r : Response) (k : Kept) → (replied version r k).receiving ≡ k.receiving
-unfolding replied
-receiving_replied version r k = by_test (not (is_owed r.number k.owed)) k.dead
-  where
-    by_test : (b d : Bool) → (if b then k else if d then record k { owed = None } else record k { owed = None; queue = k.queue ++ replies version r }).receiving ≡ k.receiving
-    by_test true d = refl
-    by_test false true = refl
-    by_test false false = refl
-
-receiving_bound : (b : Binding) (k : Kept) (c : Bool) → (if c then k else record k { bindings = k.bindings ++ b ∷ [] }).receiving ≡ k.receiving
-receiving_bound b k true = refl
-receiving_bound b k false = refl
-
-receiving_done : (version : ℕ) (h : Happening) (k : Kept) → MayDo h k → (after version h k).receiving ≡ k.receiving
-receiving_done version (Connects c) k may = receiving_lined version (record c { number = later k.last }) (record k { last = later k.last })
-receiving_done version (Replies r) k may = receiving_replied version r k
-receiving_done version (Accepts a) k may = refl
-receiving_done version (Binds b) k may = receiving_bound b k (is_bound b.entry k)
-receiving_done version (Unbinds entry) k may = refl
-receiving_done version (happenings.Hears room packet xs) k may = absurd may
-receiving_done version (happenings.Settles room) k may = absurd may
-receiving_done version happenings.Sends k may = absurd may
-receiving_done version SendOver k may = absurd may
-receiving_done version Receives k may = absurd may
-receiving_done version ReceiveOver k may = absurd may
-receiving_done version CancelLate k may = absurd may
-receiving_done version happenings.Dies k may = absurd may
-
-receiving_settled : (room : Bool) (k : Kept) → (settled room k).receiving ≡ k.receiving
-unfolding allows
-receiving_settled room k = by_forbade k.forbade
-  where
-    by_test : (f : Forbade) (b : Bool) → (if b then allows f.number k else k).receiving ≡ k.receiving
-    by_test f true = refl
-    by_test f false = refl
-
-    by_forbade : (o : Option Forbade) → (settled_with o room k).receiving ≡ k.receiving
-    by_forbade None = refl
-    by_forbade (Some f) = by_test f (is_allow_due room f k)
-
 -- an end at rest has no receive started
-neither : (a b : Bool) → a || b ≡ false → (a ≡ false) × (b ≡ false)
-neither false b e = (refl, e)
-neither true b e = let no : true ≡ false = e in absurd cc
-
-rests_deaf : (k : Kept) → is_busy k ≡ false → (k.receiving ≡ receiving.Idle → ⊥) → ⊥
-unfolding is_busy
-rests_deaf k rests hears =
-    let eight = neither _ (not (is_nil k.accepts)) rests in
-    let seven = neither _ (not (is_nil k.bindings)) eight.0 in
-    let six = neither _ (is_some k.forbade) seven.0 in
-    let five = neither _ (is_some k.owed) six.0 in
-    let four = neither _ (is_some k.outstanding) five.0 in
-    let three = neither _ (not (is_deaf k.receiving)) four.0 in
-    by k.receiving refl three.1
+at_rest : (k : Kept) → is_busy k ≡ false → (k.receiving ≡ receiving.Idle → ⊥) → ⊥
+at_rest k rests hears = rests_deaf k rests (by k.receiving hears)
   where
-    by : (r : Receiving) → k.receiving ≡ r → not (is_deaf r) ≡ false → ⊥
-    by receiving.Idle is deaf = hears is
-    by receiving.Started is deaf = let no : true ≡ false = deaf in cc
-    by receiving.Late is deaf = let no : true ≡ false = deaf in cc
-
--- ---- how an end stands
-
-pub not_destroyed : (s : Standing) (k : Kept) → s ≡ Held k → s ≡ Destroyed → ⊥
-not_destroyed s k held gone = let no : Held k ≡ Destroyed = sym held ∙ gone in cc
-
-not_lost : (s : Standing) (k : Kept) → s ≡ Held k → s ≡ Lost → ⊥
-not_lost s k held lost = let no : Held k ≡ Lost = sym held ∙ lost in cc
-
-free_not_lost : (s : Standing) → s ≡ Free → s ≡ Lost → ⊥
-free_not_lost s free lost = let no : Free ≡ Lost = sym free ∙ lost in cc
+    by : (r : Receiving) → (r ≡ receiving.Idle → ⊥) → is_deaf r ≡ false
+    by receiving.Idle hears = absurd (hears refl)
+    by receiving.Started hears = refl
+    by receiving.Late hears = refl
 
 -- over a dead link nothing is coming to the end, unless it is to be reported, or nobody hears it
 abbrev pub Hears : Seen → Pair → Type 0
@@ -190,7 +91,7 @@ module _ (version : ℕ) (p : Pair) (n : ℕ) where
         to = stands Free p;
         course = by_event (stands Free p) (LetsGo k p held rests whole nothing);
         standing = as_gone b false is Free (inl refl) (λ one. refl);
-        receive = λ hears. absurd (rests_deaf k rests (heard_so a k was hears));
+        receive = λ hears. absurd (at_rest k rests (heard_so a k was hears));
         lost = λ lost. absurd (not_lost p.near.standing k held lost);
         coming = refl;
         far = refl;
@@ -205,7 +106,7 @@ module _ (version : ℕ) (p : Pair) (n : ℕ) where
       nothing gone =
           ⊎_elim (λ (first : p.far.standing ≡ Destroyed → p.near.coming ≡ []). first gone)
           (λ (rest : IsHeard a.holding ⊎ (p.near.standing ≡ Lost)).
-          ⊎_elim (λ (hears : IsHeard a.holding). absurd (rests_deaf k rests (heard_so a k was hears)))
+          ⊎_elim (λ (hears : IsHeard a.holding). absurd (at_rest k rests (heard_so a k was hears)))
           (λ (lost : p.near.standing ≡ Lost). absurd (not_lost p.near.standing k held lost)) rest)
           hearing
 
@@ -274,10 +175,6 @@ module _ (version : ℕ) (p : Pair) (n : ℕ) where
 -- ---- all changes
 
 module _ (version : ℕ) where
-  pub onward : (p q r : Pair) → Courses version p q → Courses version q r → Courses version p r
-  onward p q r first (Rests s) = first
-  onward p q r first (Goes s m u others event) = Goes p m r (onward p q m first others) event
-
   pub changes_lead : (p : Pair) (n : ℕ) (a : Seen) (ds : List Deed) (b : Seen) → ChangesAt version a ds b → total a + n ≤ 1 → IsStandingIn n a a.holding p.near.standing → Hears a p → Leads version p n a ds b
   changes_lead p n a ds b (at_end.None f) few standing hearing =
       record { to = p; course = Rests p; standing = standing; receive = λ hears. inl hears; lost = λ lost. lost; coming = refl; far = refl; near_deeds = sym (append-nil p.near_deeds); far_deeds = refl }
@@ -287,7 +184,7 @@ module _ (version : ℕ) where
       let rest : Leads version first.to n m bs b = changes_lead first.to n m bs b others (omega (arith, less, few)) first.standing (hears_on version p n a m as' first hearing) in
       record {
         to = rest.to;
-        course = onward p first.to rest.to first.course rest.course;
+        course = onward version p first.to rest.to first.course rest.course;
         standing = rest.standing;
         receive = λ hears. ⊎_elim rest.receive (λ (lost : first.to.near.standing ≡ Lost). inr (rest.lost lost)) (first.receive hears);
         lost = λ lost. rest.lost (first.lost lost);

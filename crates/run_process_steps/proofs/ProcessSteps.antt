@@ -36,12 +36,12 @@ use Rattle.process_changes.proofs.Numbers.{end_eq_self}
 use Rattle.request_runs.specs.Sides.{Courses, Destroyed, Flipped, Free, Goes, Held, Lost, Pair, Rests, Side, flipped, new_pair}
 use Rattle.request_acts.specs.Acted.{process as pid}
 use Rattle.run_invariant.specs.Hearing.{with_owner}
-use Rattle.run_invariant.specs.Invariant.{IsAlive, IsFollowedTo, IsInOnePlace, IsOwned, IsOwner, IsSide, IsSideAt, IsStandingIn, IsToldTrue, Owners, Stands, has_of, most_brought}
+use Rattle.run_invariant.specs.Invariant.{has_of, IsAlive, IsFollowedTo, IsInOnePlace, IsOwned, IsOwner, IsSide, IsSideAt, IsStandingIn, IsToldTrue, Owners, Stands, most_brought}
 use Rattle.run_invariant.specs.Owners.{Asks, IsAskedFor, Over, Owner, Pends, Runs, Status, Told, given_of, phase_of, seen_of}
 use Rattle.run_invariant.specs.Steps.{IsMine, IsStepped, MayStep, after_step, owner_after}
 use Rattle.run_process_steps.proofs.Afterwards.{slice_goes}
-use Rattle.run_process_steps.proofs.Leading.{onward}
-use Rattle.run_process_steps.proofs.Stepping.{Lemmas, changes, end_goes, few_after, has_less, last_less, middle_less, none_brought, nothing_elsewhere, there}
+use Rattle.request_runs.proofs.Changing.{onward}
+use Rattle.run_process_steps.proofs.Stepping.{changes, end_goes, few_after, last_less, less_now, middle_less, none_brought, nothing_elsewhere, there}
 
 -- ---- both ends of a link
 
@@ -133,7 +133,7 @@ module _ (i : ℕ) (o : Owner) (os : Owners) where
 none_ended : phase.Ended ≡ phase.Running → ⊥
 none_ended e = cc
 
-module _ (lemmas : Lemmas) (version count : ℕ) (s : Service) (entries : ℕ) (os : Owners) (deeds : EndId → List Deed) (is : Stands version count s entries os deeds) (small : entries ≤ 2 ^ 28)
+module _ (version count : ℕ) (s : Service) (entries : ℕ) (os : Owners) (deeds : EndId → List Deed) (is : Stands version count s entries os deeds) (small : entries ≤ 2 ^ 28)
     (i : ℕ) (known : i < count) (may : MayStep (os i).status) (told : IsTold (given_of (os i).status)) where
   abbrev o : Owner
   o = os i
@@ -155,7 +155,7 @@ module _ (lemmas : Lemmas) (version count : ℕ) (s : Service) (entries : ℕ) (
     alive ended = none_ended (sym ended ∙ runs)
 
     abbrev step : ChangesByStep o.state (given_of o.status) d
-    step = changes lemmas version s is.owners.consistent is.owners.matched entries i o owner small alive may told
+    step = changes version s is.owners.consistent is.owners.matched entries i o owner small alive may told
 
     -- ---- its owner
 
@@ -210,18 +210,18 @@ module _ (lemmas : Lemmas) (version count : ℕ) (s : Service) (entries : ℕ) (
 
     single_now : AreSingle d.state.places
     single_now n x k held =
-        subst (λ (ps : List OwnPlace). AreSingle ps) step.places (there lemmas version s is.owners.consistent is.owners.matched entries i o owner small alive may told x).single n x k held
+        subst (λ (ps : List OwnPlace). AreSingle ps) step.places (there version s is.owners.consistent is.owners.matched entries i o owner small alive may told x).single n x k held
 
     in_place : (x : EndId) → IsInOnePlace s now i x
     in_place x =
         let was : IsInOnePlace s o i x = owner.custody alive x in
-        let less : has_of now x ≤ total (seen_of o x) = has_less lemmas version s is.owners.consistent is.owners.matched entries i o owner small alive may told x in
+        let less : has_of now x ≤ total (seen_of o x) = less_now version s is.owners.consistent is.owners.matched entries i o owner small alive may told x in
         let one : has_of o x + brings s (pid i) x ≤ 1 = was.one in
         record { one = omega (arith, less, one); own = λ some. was.own (omega (arith, less, some)) }
 
     few_now : length d.state.places + most_brought (after_step d.next) ≤ 8192 + 8 * entries
     few_now =
-        let few : length d.state.places ≤ 8192 + 8 * entries = few_after lemmas version s is.owners.consistent is.owners.matched entries i o owner small alive may told in
+        let few : length d.state.places ≤ 8192 + 8 * entries = few_after version s is.owners.consistent is.owners.matched entries i o owner small alive may told in
         let none : most_brought (after_step d.next) ≡ 0 = none_brought d.next in
         omega (arith, few, none)
 
@@ -249,7 +249,7 @@ module _ (lemmas : Lemmas) (version count : ℕ) (s : Service) (entries : ℕ) (
       pub far_deeds : to.far_deeds ≡ p.far_deeds
 
     elsewhere_now : (x : EndId) → ((s.ends x).place ≡ place.Owned (pid i) → ⊥) → deeds_at x d.deeds ≡ []
-    elsewhere_now = nothing_elsewhere lemmas version s is.owners.consistent is.owners.matched entries i o owner small alive may told
+    elsewhere_now = nothing_elsewhere version s is.owners.consistent is.owners.matched entries i o owner small alive may told
 
     one_end : (x : EndId) (p : Pair) → IsSide version s os x p.near → (IsGone s (opposite x) → p.far.standing ≡ Destroyed) → (p.far.standing ≡ Destroyed → IsGone s (opposite x)) → EndDone x p
     one_end x p near far_gone gone_far = ⊎_elim here away (is_own i now os (s.ends x).place)
@@ -257,7 +257,7 @@ module _ (lemmas : Lemmas) (version count : ℕ) (s : Service) (entries : ℕ) (
         here : (s.ends x).place ≡ place.Owned (pid i) → EndDone x p
         here own =
             let owned : IsOwned version s o i x p.near = subst (λ (at : Place). IsSideAt version s os x p.near at) own near in
-            let went = end_goes lemmas version s is.owners.consistent is.owners.matched entries i o owner small alive may told x p own owned far_gone gone_far in
+            let went = end_goes version s is.owners.consistent is.owners.matched entries i o owner small alive may told x p own owned far_gone gone_far in
             record { to = went.to; course = went.course; near = own_side i now os version s x went.to.near own went.near; far = went.far; near_deeds = went.near_deeds; far_deeds = went.far_deeds }
 
         away : ((s.ends x).place ≡ place.Owned (pid i) → ⊥) → EndDone x p
@@ -304,8 +304,8 @@ module _ (lemmas : Lemmas) (version count : ℕ) (s : Service) (entries : ℕ) (
 
     own_by : (x : EndId) → 1 ≤ total (seen x step.last) → (s.ends x).place ≡ place.Owned (pid i)
     own_by x some =
-        let one : total (seen x step.last) ≤ total (seen x step.told) = last_less lemmas version s is.owners.consistent is.owners.matched entries i o owner small alive may told x in
-        let two : total (seen x step.told) ≤ total (seen_of o x) = middle_less lemmas version s is.owners.consistent is.owners.matched entries i o owner small alive may told x in
+        let one : total (seen x step.last) ≤ total (seen x step.told) = last_less version s is.owners.consistent is.owners.matched entries i o owner small alive may told x in
+        let two : total (seen x step.told) ≤ total (seen_of o x) = middle_less version s is.owners.consistent is.owners.matched entries i o owner small alive may told x in
         (owner.custody alive x).own (omega (arith, some, one, two))
 
     mine_now : (c : Call) → d.next ≡ next.Ask c → IsMine s i c

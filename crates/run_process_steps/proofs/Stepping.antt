@@ -1,9 +1,5 @@
 -- A step of a process keeps the invariant at an end that it owns.
 use Rattle.std.proofs.Common.{arith, ◌≡◌, ◌⊎◌, inl, inr, ⊎_elim, ℕ, zero, suc, ◌+◌, ◌*◌, ◌^◌, ◌≤◌, ◌<◌, true, List, [], ◌∷◌, ◌++◌, length, Option, None, refl, sym, ap, subst, ◌∙◌, append_assoc}
-use Rattle.std.specs.Prelude.{filter, map}
-use Rattle.std.proofs.lemmas.List.{map-append}
-use Rattle.std.proofs.lemmas.List.Elements.{filter-append}
-use Rattle.charlotte_calls.specs.EndEq.{end_eq}
 use Rattle.charlotte_calls.specs.Names.{opposite}
 use Rattle.charlotte_calls.specs.declared.calls.Answer.{Answer}
 use Rattle.charlotte_calls.specs.declared.names.EndId.{EndId}
@@ -20,52 +16,34 @@ use Rattle.service_step.specs.declared.state.Place.TheVariants as place
 use Rattle.service_custody.specs.Coming.{AreMatched, coming}
 use Rattle.service_custody.specs.Deaths.{IsGone}
 use Rattle.service_custody.specs.Moves.{brings}
+use Rattle.service_custody.proofs.Coming.{deaf-nothing}
 use Rattle.end_protocol.specs.declared.messages.Message.{Message}
 use Rattle.end_protocol.specs.Deeds.{Deed}
-use Rattle.process_run.specs.States.{DeedOn, Gone, Holding, Keeps, State}
+use Rattle.process_run.specs.States.{DeedOn, Gone, Holding, Keeps}
 use Rattle.process_run.specs.Ends.{number_of}
 use Rattle.process_run.specs.Runs.{Did, did}
-use Rattle.process_sound.specs.Processes.{IsRunning}
 use Rattle.process_sound.specs.Told.{IsTold}
 use Rattle.process_changes.specs.AtEnd.{AreAt, IsToldAt, Seen, deeds_at, held_count, holding_at, known_holding, seen, total}
 use Rattle.process_changes.specs.Changes.{Changes}
 use Rattle.process_changes.specs.Ledgers.{Ledger}
 use Rattle.process_changes.specs.Telling.{ChangesByStep, Telling, Turn}
-use Rattle.process_changes.proofs.AtEnd.{changes_at, changes_less}
+use Rattle.process_changes.proofs.AtEnd.{changes_at, changes_less, deeds_both}
 use Rattle.process_changes.proofs.Away.{all_away, told_away}
 use Rattle.process_changes.proofs.Growing.{places_grow}
+use Rattle.process_changes.proofs.Steps.{step_changes}
 use Rattle.process_changes.proofs.ToldAt.{holding_known, told_at}
 use Rattle.request_runs.specs.Sides.{Courses, Destroyed, Lost, Pair, Side, Standing}
 use Rattle.request_acts.specs.Acted.{process as pid}
-use Rattle.run_invariant.specs.Invariant.{AreSpelled, HasReceive, IsAlive, IsOwned, IsOwner, IsReceived, IsStandingIn, has_of, most_brought, told_to}
-use Rattle.run_invariant.specs.Owners.{Asks, Over, Owner, Pends, Runs, Status, Told, destroying, given_of, ledger_of, seen_of, turn_of}
+use Rattle.run_invariant.specs.Invariant.{has_of, AreSpelled, HasReceive, IsAlive, IsOwned, IsOwner, IsReceived, IsStandingIn, most_brought, told_to}
+use Rattle.run_invariant.specs.Owners.{destroying, Asks, Over, Owner, Pends, Runs, Status, Told, given_of, ledger_of, seen_of, turn_of}
 use Rattle.run_invariant.specs.Steps.{MayStep, after_step, owner_after}
 use Rattle.run_process_steps.proofs.Afterwards.{IsLast, received, step_last}
 use Rattle.run_process_steps.proofs.Heeding.{Heeded, IsHeard, heeds}
 use Rattle.run_process_steps.proofs.Telling.{tellings_lead}
-use Rattle.run_process_steps.proofs.Leading.{Hears, Leads, changes_lead, onward}
-
--- ---- what is asked of other crates
-
--- a step changes the ends of its process so
-abbrev pub StepsChange : Type 0
-StepsChange = (s : State) (given : Option Answer) → IsTold given → IsRunning s → ChangesByStep s given (did s given)
-
--- where the opposite end is destroyed and no receive is started, nothing comes
-abbrev pub DeafEndsGetNothing : Type 0
-DeafEndsGetNothing =
-    (s : Service) (x : EndId) → IsConsistent s → AreMatched s → IsGone s (opposite x) → is_living (s.ends x).place ≡ true → (s.ends x).inward ≡ inward.Idle → coming s x ≡ []
-
-pub record Lemmas : Type 0 where
-  pub steps_change : StepsChange
-  pub deaf_ends_get_nothing : DeafEndsGetNothing
+use Rattle.request_runs.proofs.Changing.{onward}
+use Rattle.run_process_steps.proofs.Leading.{Hears, Leads, changes_lead}
 
 -- ---- small things
-
-deeds_both : (y : EndId) (ds es : List DeedOn) → deeds_at y (ds ++ es) ≡ deeds_at y ds ++ deeds_at y es
-deeds_both y ds es =
-    ap (map (λ (d : DeedOn). d.deed)) (filter-append (λ (d : DeedOn). end_eq d.on y) ds es)
-    ∙ map-append (λ (d : DeedOn). d.deed) (filter (λ (d : DeedOn). end_eq d.on y) ds) (filter (λ (d : DeedOn). end_eq d.on y) es)
 
 nothing_spelled : (version : ℕ) (ms : List Message) → AreSpelled version ms [] → ms ≡ []
 nothing_spelled version [] all = refl
@@ -96,7 +74,7 @@ has_receive t n (Keeps k) hears = inl hears
 has_receive t n (Gone own) hears = absurd hears
 
 -- its process goes on with this answer, or none, and did not end
-module _ (lemmas : Lemmas) (version : ℕ) (s : Service) (consistent : IsConsistent s) (matched : AreMatched s) (entries i : ℕ) (o : Owner) (owner : IsOwner version s entries i o)
+module _ (version : ℕ) (s : Service) (consistent : IsConsistent s) (matched : AreMatched s) (entries i : ℕ) (o : Owner) (owner : IsOwner version s entries i o)
     (small : entries ≤ 2 ^ 28) (alive : IsAlive o) (may : MayStep o.status) (told : IsTold (given_of o.status)) where
   abbrev given : Option Answer
   given = given_of o.status
@@ -108,7 +86,7 @@ module _ (lemmas : Lemmas) (version : ℕ) (s : Service) (consistent : IsConsist
   t = turn_of o
 
   pub changes : ChangesByStep o.state given d
-  changes = lemmas.steps_change o.state given told owner.running
+  changes = step_changes o.state given told owner.running
 
   abbrev middle : Ledger
   middle = changes.told
@@ -117,7 +95,7 @@ module _ (lemmas : Lemmas) (version : ℕ) (s : Service) (consistent : IsConsist
   last = changes.last
 
   in_one : (x : EndId) → total (seen_of o x) + brings s (pid i) x ≤ 1
-  in_one x = let one = (owner.custody alive x).one in omega (arith, one)
+  in_one x = let one : has_of o x + brings s (pid i) x ≤ 1 = (owner.custody alive x).one in omega (arith, one)
 
   pub telling : Telling version t (ledger_of o) changes.told_deeds middle
   telling = subst (λ (v : ℕ). Telling v t (ledger_of o) changes.told_deeds middle) owner.version_is changes.telling
@@ -167,19 +145,15 @@ module _ (lemmas : Lemmas) (version : ℕ) (s : Service) (consistent : IsConsist
   abbrev now : Owner
   now = owner_after d
 
-  at_last : (x : EndId) → IsLast x last (seen_of now x) (destroying x now.status)
+  at_last : (x : EndId) → IsLast x (destroying x now.status) last (seen_of now x)
   at_last x = step_last x o.state given d changes
 
-  -- with the end that its call destroys
-  pub has_less : (x : EndId) → has_of now x ≤ total (seen_of o x)
-  has_less x =
+  pub less_now : (x : EndId) → has_of now x ≤ total (seen_of o x)
+  less_now x =
       let one : total (seen_of now x) + destroying x now.status ≤ total (seen x last) = (at_last x).all in
       let two : total (seen x last) ≤ total (seen x middle) = last_less x in
       let three : total (seen x middle) ≤ total (seen_of o x) = middle_less x in
       omega (arith, one, two, three)
-
-  pub less_now : (x : EndId) → total (seen_of now x) ≤ total (seen_of o x)
-  less_now x = let one : has_of now x ≤ total (seen_of o x) = has_less x in omega (arith, one)
 
   -- ---- at an end that it owns
 
@@ -209,7 +183,7 @@ module _ (lemmas : Lemmas) (version : ℕ) (s : Service) (consistent : IsConsist
         ⊎_elim
         (λ (all : AreSpelled version heeded.to.near.coming (coming s x)).
         inl (λ gone. nothing_spelled version heeded.to.near.coming
-        (subst (λ (l : List ToldMessage). AreSpelled version heeded.to.near.coming l) (lemmas.deaf_ends_get_nothing s x consistent matched (still_gone gone) living idle) all)))
+        (subst (λ (l : List ToldMessage). AreSpelled version heeded.to.near.coming l) (deaf-nothing s x consistent matched (still_gone gone) living idle) all)))
         (λ (lost : heeded.to.near.standing ≡ Lost). inr (inr lost)) heeded.coming_is
 
     hears : (w : Inward) → (s.ends x).inward ≡ w → Hears (seen x middle) heeded.to

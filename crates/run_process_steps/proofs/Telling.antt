@@ -22,13 +22,14 @@ use Rattle.end_protocol.specs.Lists.{tail}
 use Rattle.request_meaning.specs.Links.{MayHappen}
 use Rattle.process_run.specs.States.{Asked, Gone, Holding, Keeps}
 use Rattle.process_run.specs.States as process
-use Rattle.process_changes.specs.Telling.{Brings, IsAnswer, IsDeath, IsDeathWith, IsReadable, IsTold, Kills, Turn}
+use Rattle.process_changes.specs.Telling.{Brings, IsAnswer, IsDeathWith, IsReadable, IsTold, Kills, Turn}
 use Rattle.process_changes.specs.AtEnd.{IsUntoldOf, ToldAt, is_sent, known}
 use Rattle.process_changes.specs.AtEnd as told
 use Rattle.request_runs.specs.Sides.{Destroyed, Dies, Does, Goes, Hears, Held, Loses, Lost, Pair, Passes, Rests, comes, did, hearing, stands}
 use Rattle.request_runs.specs.Told.{IsFirst, IsTrue, left}
 use Rattle.run_process_steps.proofs.Heeding.{IsNow, IsThen, TellingLeads, ok_not_err}
-use Rattle.run_process_steps.proofs.Leading.{not_destroyed}
+use Rattle.process_changes.proofs.ToldAt.{cancelled, died, received, sent_when, waited}
+use Rattle.request_runs.proofs.Changing.{not_destroyed}
 
 same_ok : (p q : RtPacket) → ◌≡◌ {A = Result RtPacket ℕ} (Ok p) (Ok q) → p ≡ q
 same_ok p q e = cc
@@ -36,17 +37,8 @@ same_ok p q e = cc
 module _ (version : ℕ) (t : Turn) (x : EndId) (n : ℕ) (p : Pair) where
   -- ---- whether a Send was answered Ok
 
-  by_asked : (asked : Asked) → t.asked ≡ asked → is_sent asked t.given n ≡ false → is_sent t.asked t.given n ≡ false
-  by_asked asked e un = ap (λ (a : Asked). is_sent a t.given n) e ∙ un
-
-  unsent_death : IsDeath t n → is_sent t.asked t.given n ≡ false
-  unsent_death death =
-      ⊎_elim
-      (λ (d : IsTold t (process.Send n) (answer.Refused Dead)). ap (λ (a : Asked). is_sent a t.given n) d.0 ∙ ap (λ (g : Option Answer). is_sent (process.Send n) g n) d.1)
-      (λ (d : IsTold t (process.Receive n) (answer.Refused Dead)). by_asked (process.Receive n) d.0 refl) death
-
   is_known : IsTold t (process.Send n) answer.Ok → is_sent t.asked t.given n ≡ true
-  is_known is = ap (λ (a : Asked). is_sent a t.given n) is.0 ∙ ap (λ (g : Option Answer). is_sent (process.Send n) g n) is.1 ∙ eq-eqb n n refl
+  is_known is = sent_when t n n is ∙ eq-eqb n n refl
 
   module _ (k : Kept) (standing : p.near.standing ≡ Held (known t n k)) where
     held : is_sent t.asked t.given n ≡ false → p.near.standing ≡ Held k
@@ -83,10 +75,10 @@ module _ (version : ℕ) (t : Turn) (x : EndId) (n : ℕ) (p : Pair) where
 
     by_answer : (h : Happening) → IsAnswer t n x h → TellingLeads version p (Keeps k) [] (Keeps (after version h k)) p.near.coming
     by_answer happenings.Sends is = knows (is_known is)
-    by_answer SendOver is = answers SendOver (by_asked process.Wait is.told.0.0 refl) tt refl
-    by_answer Receives is = answers Receives (by_asked (process.Receive n) is.0 refl) tt refl
-    by_answer ReceiveOver is = answers ReceiveOver (by_asked (process.Cancel n) is.0 refl) tt refl
-    by_answer CancelLate is = answers CancelLate (by_asked (process.Cancel n) is.0 refl) tt refl
+    by_answer SendOver is = answers SendOver (waited t is.told.0.0 n) tt refl
+    by_answer Receives is = answers Receives (received t n is.0 n) tt refl
+    by_answer ReceiveOver is = answers ReceiveOver (cancelled t n is.0 n) tt refl
+    by_answer CancelLate is = answers CancelLate (cancelled t n is.0 n) tt refl
     by_answer (happenings.Connects c) is = absurd is
     by_answer (happenings.Accepts a) is = absurd is
     by_answer (happenings.Binds b) is = absurd is
@@ -100,7 +92,7 @@ module _ (version : ℕ) (t : Turn) (x : EndId) (n : ℕ) (p : Pair) where
 
     module _ (bytes : List ℕ) (xs : List EndId) (brings : Brings t x bytes xs) (is_first : IsFirst version bytes xs p.near.coming) where
       unsent : is_sent t.asked t.given n ≡ false
-      unsent = by_asked process.Wait brings.told.0.0 refl
+      unsent = waited t brings.told.0.0 n
 
       heard_so : (room : Bool) (packet : RtPacket) → packet_of version bytes ≡ Ok packet → IsReadable (hears version room packet xs (receive_over k)).1 →
           TellingLeads version p (Keeps k) (heard_deeds (hears version room packet xs (receive_over k)).1) (Keeps (hears version room packet xs (receive_over k)).0) (tail p.near.coming)
@@ -177,11 +169,11 @@ module _ (version : ℕ) (t : Turn) (x : EndId) (n : ℕ) (p : Pair) where
     dies_with h death gone =
         ⊎_elim
         (λ (d : IsTold t (process.Cancel n) (answer.Refused Dead) × (h ≡ CancelLate)).
-        so CancelLate d.1 (dies_after CancelLate (by_asked (process.Cancel n) d.0.0 refl) tt refl gone))
+        so CancelLate d.1 (dies_after CancelLate (cancelled t n d.0.0 n) tt refl gone))
         (λ (d : Kills t x h).
         ⊎_elim
-        (λ (r : (d.report.way ≡ Inward) × (h ≡ ReceiveOver)). so ReceiveOver r.1 (dies_after ReceiveOver (by_asked process.Wait d.told.0.0 refl) tt refl gone))
-        (λ (r : (d.report.way ≡ Outward) × (h ≡ SendOver)). so SendOver r.1 (dies_after SendOver (by_asked process.Wait d.told.0.0 refl) tt refl gone))
+        (λ (r : (d.report.way ≡ Inward) × (h ≡ ReceiveOver)). so ReceiveOver r.1 (dies_after ReceiveOver (waited t d.told.0.0 n) tt refl gone))
+        (λ (r : (d.report.way ≡ Outward) × (h ≡ SendOver)). so SendOver r.1 (dies_after SendOver (waited t d.told.0.0 n) tt refl gone))
         d.over)
         death
       where
@@ -214,5 +206,5 @@ module _ (version : ℕ) (t : Turn) (x : EndId) (n : ℕ) (p : Pair) where
   tellings_lead g ds h (told.Hears k room bytes packet xs brings spelled readable) standing true_told = heard_so k standing bytes xs brings true_told room packet spelled readable
   tellings_lead g ds h (told.Ignores k bytes over xs brings e) standing true_told = absurd (ok_not_err version over bytes true_told.message.packet true_told.packet e)
   tellings_lead g ds h (told.Breaks k own bytes xs brings) standing true_told = broken k standing bytes xs brings true_told own
-  tellings_lead g ds h (told.Dies k death) standing true_told = dies_now k standing (unsent_death death) true_told
+  tellings_lead g ds h (told.Dies k death) standing true_told = dies_now k standing (died t n death n) true_told
   tellings_lead g ds h (told.DiesWith k what death) standing true_told = dies_with k standing what death true_told
