@@ -5,12 +5,14 @@ With `--minutes N` behind TOP it prints the minutes that this takes on N process
 
 It is done by the toolchain's gate, in a copy that has those crates alone, without the edits that the prover has to refuse: as many crates
 at once as there are processors, the longest chain first. What is proved there stays proved for this machine, also for the gate itself.
+Where the first crate is a static library NAME_c, the archive libNAME.a is made behind that, which needs no other archive but the C library's.
 """
 
 import contextlib
 import math
 import os
 import re
+import shlex
 import shutil
 import signal
 import subprocess
@@ -36,6 +38,12 @@ def say(text):
     if sys.stderr is not None:
         with contextlib.suppress(OSError):
             os.write(sys.stderr.fileno(), f"lynx: {text}\n".encode())
+
+
+def rows_of(top):
+    """The lines of crates.txt, by their crates."""
+    with open(f"{top}/crates.txt", encoding="utf-8") as lines:
+        return {re.match(r"\w+", line)[0]: line for line in lines if re.match("[a-z]", line)}
 
 
 def minutes_of(seconds):
@@ -89,12 +97,50 @@ class Work:
         return max(longest, sum(self.seconds[crate] for crate in crates) / self.lanes)
 
 
+class Archive:
+    """How the archive of a static library is made: the gate makes none, and `rt lib` would build all libraries below once more."""
+
+    def __init__(self, crate, row, needs):
+        self.crate = crate
+        self.uses = row.partition(":")[2].split()
+        self.needs = needs
+        self.kit = os.path.dirname(os.path.dirname(os.path.realpath(shutil.which("rt") or "rt")))
+        self.name = f"lib{crate.removesuffix('_c')}.a"
+
+    def commands(self):
+        """What is run in a copy of the crates: the gate, the compiler over the libraries that it has built, and the joining."""
+        steps = [["rt", "ci"], ["cd", f"crates/{self.crate}"], ["mkdir", "-p", "out"], self.compiling(), self.joining()]
+        return ["sh", "-c", " && ".join(map(shlex.join, steps))]
+
+    def compiling(self):
+        words = [f"{self.kit}/bin/rattle", "build", "--crate-name", self.crate, "src/lib.rt"]
+        words += ["--extern", f"std={self.kit}/rlibs/std.rlib", "-L", f"dependency={self.kit}/rlibs"]
+        for used in self.uses:
+            folder = f"../{used}/out/rlib" if used in self.needs else f"{self.kit}/rlibs"
+            words += ["--extern", f"{used}={folder}/{used}.rlib"]
+        for below in self.needs:
+            words += ["-L", f"dependency=../{below}/out/rlib"] * (below != self.crate)
+        words += ["--antt-project", f"{self.kit}/rattle/logic/antt-project.json", "--logic-built", f"{self.kit}/logic_built"]
+        words += ["--links", f"{self.crate}=", "--crate-type", "staticlib", "--toolchain", f"{self.kit}/toolchain", "--backend", "llvm"]
+        return [*words, "-o", "out/compiled.a"]
+
+    def joining(self):
+        """One archive of the crate's own and of the lines of C by which it asks for memory."""
+        return [f"{self.kit}/toolchain/bin/llvm-ar", "qcLsD", f"out/{self.name}", "out/compiled.a", f"{self.kit}/c/liblibc_c.a"]
+
+
 class Build:
     def __init__(self, top, needs, parent):
         self.top = top
         self.needs = needs
         self.parent = parent
         self.program = next(iter(needs))
+        self.rows = rows_of(top)
+        row = self.rows[self.program]
+        archive = Archive(self.program, row, needs) if re.match(r"\w+ staticlib\b", row) else None
+        self.commands = archive.commands() if archive else ["rt", "ci"]
+        self.made = archive.name if archive else self.program
+        self.kind = "library" if archive else "program"
         self.work = Work(top, needs, max(1, os.cpu_count() or 1))
         self.left = set(needs)
         self.started = time.time()
@@ -116,8 +162,8 @@ class Build:
         handles = f"{self.top}/HANDLES"
         if os.path.exists(handles):
             shutil.copy(handles, self.room)
-        with open(f"{self.top}/crates.txt", encoding="utf-8") as every, open(f"{self.room}/crates.txt", "w", encoding="utf-8") as ours:
-            ours.writelines(line for line in every if line.split(":")[0].strip() in self.needs)
+        with open(f"{self.room}/crates.txt", "w", encoding="utf-8") as ours:
+            ours.writelines(line for crate, line in self.rows.items() if crate in self.needs)
 
     def begin(self):
         # so no run is under way that `stop` does not know of
@@ -125,7 +171,7 @@ class Build:
         try:
             with open(self.log, "wb") as log:
                 self.running = subprocess.Popen(
-                    ["rt", "ci"],
+                    self.commands,
                     cwd=self.room,
                     stdin=subprocess.DEVNULL,
                     stdout=log,
@@ -147,11 +193,16 @@ class Build:
                     self.waits.add(line)
                     say(line)
 
-    def tell(self):
+    def progress(self):
         """Crates done, and the work that is left by what was measured: it says nothing of a machine that is busy with other things."""
-        minutes = minutes_of(sum(self.work.seconds[crate] for crate in self.left))
-        words = f"proved {len(self.needs) - len(self.left)} of {len(self.needs)}, about {counted(minutes, 'processor minute')} left"
-        if words != self.told and self.left:
+        if self.left:
+            minutes = minutes_of(sum(self.work.seconds[crate] for crate in self.left))
+            return f"proved {len(self.needs) - len(self.left)} of {len(self.needs)}, about {counted(minutes, 'processor minute')} left"
+        return "all is proved, and the library is compiled: a minute or two" if self.kind == "library" else self.told
+
+    def tell(self):
+        words = self.progress()
+        if words != self.told:
             say(words)
         self.told = words
 
@@ -159,17 +210,22 @@ class Build:
         with open(self.log, encoding="utf-8", errors="replace") as log:
             lost = re.findall(r"(?m)^rt: (\w+) NOT PROVED$", log.read())
         why = f"{lost[0]} was not proved" if lost else "the toolchain ended with a fault"
-        say(f"the program could not be built: {why}. The lines of the toolchain are in {self.log}")
+        say(f"the {self.kind} could not be built: {why}. The lines of the toolchain are in {self.log}")
 
-    def run(self):
-        """Whether the program was built."""
+    def tell_first(self):
+        """What there is to do, and what needs none of it."""
         minutes = minutes_of(sum(self.work.seconds.values()))
         say(
-            f"the program has to be proved and built first: {len(self.needs)} crates, some {counted(minutes, 'processor minute')}."
+            f"the {self.kind} has to be proved and built first: {len(self.needs)} crates, some {counted(minutes, 'processor minute')}."
             f" Once, on {counted(self.work.lanes, 'processor')} with nothing else to do that takes about"
             f" {counted(minutes_of(self.work.seconds_of(self.needs)), 'minute')}; what was proved on this machine before is not proved again."
         )
-        say("meanwhile: `lynx --unproved ..` answers in a minute or two, and `lynx draw` draws the transcripts in examples/ at once")
+        if self.kind == "program":
+            say("meanwhile: `lynx --unproved ..` answers in a minute or two, and `lynx draw` draws the transcripts in examples/ at once")
+
+    def run(self):
+        """Whether the program was built."""
+        self.tell_first()
         self.copy()
         self.begin()
         while self.running.poll() is None:
@@ -179,13 +235,13 @@ class Build:
             self.tell()
             time.sleep(0.2)
         self.read_log()
-        made = f"{self.room}/crates/{self.program}/out/{self.program}"
+        made = f"{self.room}/crates/{self.program}/out/{self.made}"
         if self.running.returncode or not os.path.exists(made):
             self.fail()
             return False
-        shutil.move(made, f"{self.out}/{self.program}")
+        shutil.move(made, f"{self.out}/{self.made}")
         # so a source that was edited during the build is newer
-        os.utime(f"{self.out}/{self.program}", (self.started, self.started))
+        os.utime(f"{self.out}/{self.made}", (self.started, self.started))
         say("built")
         os.remove(self.log)
         return True

@@ -205,15 +205,14 @@ fn run_serial<P: Program>(nodes: &mut [Node<P>], rings: &[Ring]) -> Option<u8> {
     }
 }
 
-/// Counts what is put and not taken, and the nodes that are not at rest: the run is over where there is nothing of both, or where a node has used its
+/// The nodes that have nothing to do are counted: the run is over where all have nothing to do and no ring holds a packet, or where a node has used its
 /// turns.
 fn run_threads<P: Program>(nodes: &mut [Node<P>], rings: &[Ring]) -> Option<u8> {
-    let (idle, is_over) = (AtomicUsize::new(0), AtomicBool::new(false));
-    let count = nodes.len();
+    let rest = Rest { count: nodes.len(), ..Rest::default() };
     thread::scope(|scope| {
         for node in nodes.iter_mut() {
-            let (idle, is_over) = (&idle, &is_over);
-            scope.spawn(move || while work(node, rings, idle, is_over, count) {});
+            let rest = &rest;
+            scope.spawn(move || while work(node, rings, rest) {});
         }
     });
     if are_empty(rings) && nodes.iter().all(Node::is_at_rest) {
@@ -222,23 +221,47 @@ fn run_threads<P: Program>(nodes: &mut [Node<P>], rings: &[Ring]) -> Option<u8> 
     nodes.iter().find(|node| node.used == node.limit).map(|node| node.kernel.id)
 }
 
+/// Which of so many nodes have nothing to do, as they tell each other.
+#[derive(Default)]
+struct Rest {
+    count: usize,
+    idle: AtomicUsize,
+    /// How often a node that was idle went on.
+    woken: AtomicUsize,
+    is_over: AtomicBool,
+}
+
+impl Rest {
+    fn wake(&self) {
+        self.idle.fetch_sub(1, Ordering::SeqCst);
+        self.woken.fetch_add(1, Ordering::SeqCst);
+    }
+
+    /// Whether all are idle and no ring holds a packet. Rings are looked at one by one, so it holds only where no node went on meanwhile.
+    fn is_quiet(&self, rings: &[Ring]) -> bool {
+        let woken = self.woken.load(Ordering::SeqCst);
+        let all_idle = || self.idle.load(Ordering::SeqCst) == self.count;
+        all_idle() && are_empty(rings) && all_idle() && self.woken.load(Ordering::SeqCst) == woken
+    }
+}
+
 /// Works until there is nothing to do, then waits until there is something again: whether there is.
-fn work<P: Program>(node: &mut Node<P>, rings: &[Ring], idle: &AtomicUsize, is_over: &AtomicBool, count: usize) -> bool {
+fn work<P: Program>(node: &mut Node<P>, rings: &[Ring], rest: &Rest) -> bool {
     while node.turn(rings) == Turn::Worked {}
     if node.used == node.limit {
-        is_over.store(true, Ordering::SeqCst);
+        rest.is_over.store(true, Ordering::SeqCst);
     }
-    idle.fetch_add(1, Ordering::SeqCst);
+    rest.idle.fetch_add(1, Ordering::SeqCst);
     let mut turns = 0;
     loop {
-        if is_over.load(Ordering::SeqCst) {
+        if rest.is_over.load(Ordering::SeqCst) {
             return false;
         }
         if has_letter(node, rings) || !node.is_at_rest() {
-            idle.fetch_sub(1, Ordering::SeqCst);
+            rest.wake();
             return true;
         }
-        if idle.load(Ordering::SeqCst) == count && are_empty(rings) && idle.load(Ordering::SeqCst) == count {
+        if rest.is_quiet(rings) {
             return false;
         }
         turns += 1;

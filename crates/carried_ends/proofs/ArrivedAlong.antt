@@ -31,12 +31,14 @@ use Rattle.request_acts.proofs.Fleets.{asked_by, set-self}
 use Rattle.run_invariant.specs.Hearing.{owner_told, owners, with_owner}
 use Rattle.run_invariant.specs.Invariant.{Owners, Stands}
 use Rattle.run_invariant.specs.Owners.{Asks, owner_of}
+use Rattle.lost_ends.specs.Stopped.{AreFollowedSo}
 use Rattle.carried_ends.proofs.Arrived.{AreGot, IsOwnOf, got-step, got-uncalled, step-got}
+use Rattle.lost_ends.proofs.Along.{asked-so, called-so, paused-so, taken-so}
+use Rattle.carried_ends.proofs.UnderWayIssuers.{AreIssued, issued-before, issued-on, issued-step, issued-uncalled, left-closed}
 use Rattle.followed_links.proofs.Calling.{Begins, IsPrint, below-or-above, room-of, steps-begin}
 use Rattle.followed_links.proofs.Entries.{StepsKeep, more-entries}
 use Rattle.followed_links.proofs.Following.{IsFollowing, ProcessesKeep, ServiceMoves, calls-deeds, calls-follow, cancels-none, call-step, asked, below, bytes, mine, of-entry, own-first, pauses-deeds, pauses-follow, quiet, since-later, since-same, since_of, steps-grow, taken-uncalled, takes-deeds, takes-follow, woven-first}
 use Rattle.followed_links.proofs.Told.{given-is}
-use Rattle.carried_ends.proofs.UnderWayIssuers.{AreIssued, issued-before, issued-on, issued-step, issued-uncalled, left-closed}
 use Rattle.followed_links.proofs.Weaving.{AreWoven, flushing, weaves-call}
 
 -- so it stands after so many entries, with these deeds of the run
@@ -48,6 +50,7 @@ pub record IsSnap (version count : ℕ) (s : Service) (n : ℕ) (past : List Don
   pub woven : AreWoven s since past deeds
   pub got : (i : ℕ) → AreGot s i (since i)
   pub issued : AreIssued s past deeds
+  pub so : AreFollowedSo version s os deeds
 
 -- of these deeds the first have so many entries before them at most, and with these it stands so
 pub record IsSeenAt (version count : ℕ) (states : States) (all : List Done) (n : ℕ) : Type 0 where
@@ -125,6 +128,7 @@ module _ (version count : ℕ) (s : Service) (n : ℕ) where
         subst (λ (l : List DeedOn). AreIssued s (past ++ done_by (process i) n l) snap.deeds) (append-nil (snap.since i))
         (subst (λ (all : EndId → List Deed). AreIssued s (past ++ done_by (process i) n (snap.since i ++ [])) all) (λ j x. append-nil (snap.deeds x) j)
         (issued-before s snap.since past snap.deeds snap.woven i [] (λ x away. refl) n snap.issued));
+    so = snap.so;
   }
 
   ends-snap : (f : Fleet) (m a : ℕ) (past : List Done) (snap : IsSnap version count s n past) → ((i : ℕ) → a ≤ i → snap.since i ≡ since_of f i) → IsSnap version count s n (past ++ at_end n f (map process (range_with_len a m)))
@@ -145,6 +149,7 @@ pub record IsArriving (version count : ℕ) (states : States) (s : Service) (n :
   pub following : IsFollowing version count s n f past
   pub got : (i : ℕ) → AreGot s i (since_of f i)
   pub issued : AreIssued s past following.deeds
+  pub so : AreFollowedSo version s (owners f) following.deeds
   pub early : AllByRecursion (λ d. d.after ≤ n) past
   pub arrived : AllByRecursion (AreWith states) past
 
@@ -175,6 +180,10 @@ module _ (g : Setting) (version count : ℕ) (counted : length g.homes ≡ count
     issued =
         subst (λ (all : EndId → List Deed). AreIssued s past all) (sym (pauses-deeds g version count counted services processes moving s n f past is.following few p below given pausing))
         (issued-on s past is.following.deeds (did (f p.0).replayed.state given).deeds is.issued);
+    so =
+        subst (λ (all : EndId → List Deed). AreFollowedSo version s (owners (with_acting p (paused given (f p.0)) f)) all)
+        (sym (pauses-deeds g version count counted services processes moving s n f past is.following few p below given pausing))
+        (paused-so g version count counted services processes moving s n f past is.following is.so few p below given pausing);
     early = is.early;
     arrived = is.arrived;
   }
@@ -205,6 +214,10 @@ module _ (g : Setting) (version count : ℕ) (counted : length g.homes ≡ count
               subst (λ (all : EndId → List Deed). AreIssued t past all) (sym (takes-deeds g version count counted services processes moving s n f past is.following e part entry range none))
               (issued-uncalled moving.moves moving.consistent past is.following.deeds part s is.following.stands.owners.consistent entry.run
               (subst (λ (l : List ServiceStep). AllByRecursion IsUncalled l) (sym entry.steps) un) is.issued);
+          so =
+              subst (λ (all : EndId → List Deed). AreFollowedSo version t (owners (hears_entry (home_of g) e f)) all)
+              (sym (takes-deeds g version count counted services processes moving s n f past is.following e part entry range none))
+              (taken-so g version count counted services processes moving s n f past is.following is.so e part entry range none);
           early = later-early past is.early;
           arrived = is.arrived;
         }
@@ -234,6 +247,7 @@ module _ (g : Setting) (version count : ℕ) (counted : length g.homes ≡ count
         woven = woven-first g version count counted services processes moving s n f past is.following e part entry range few p given c own is_call asking;
         got = flushed-got s p.0 (since_of f) is.got;
         issued = issued-first;
+        so = asked-so g version count counted services processes moving s n f past is.following is.so e part entry range few p below given c own is_call asking;
       }
 
       begun-got : Begins p.0 c e.entry.steps → (j : ℕ) → AreGot t j (since_after j)
@@ -314,6 +328,10 @@ module _ (g : Setting) (version count : ℕ) (counted : length g.homes ≡ count
         issued =
             subst (λ (all : EndId → List Deed). AreIssued t past_after all)
             (sym (calls-deeds g version count counted services processes moving s n f past is.following e part entry range few p given c own is_call asking)) called-issued;
+        so =
+            subst (λ (all : EndId → List Deed). AreFollowedSo version t (owners (hears_entry (home_of g) e (asked_by p given f))) all)
+            (sym (calls-deeds g version count counted services processes moving s n f past is.following e part entry range few p given c own is_call asking))
+            (called-so g version count counted services processes moving s n f past is.following is.so e part entry range few p below given c own is_call asking);
         early =
             every_append (λ (d : Done). d.after ≤ suc n) past (done_by p n (deeds_before given (f p.0))) (later-early past is.early)
             (done-all (λ (d : Done). d.after ≤ suc n) p n (deeds_before given (f p.0)) (λ d. omega arith));
@@ -370,7 +388,7 @@ module _ (g : Setting) (version count : ℕ) (counted : length g.homes ≡ count
           snap =
               subst (λ (u : Service). IsSnap version count u n (past ++ ends-of n f)) (sym at)
               (ends-snap version count s n f count 0 past
-              (record { os = owners f; deeds = is.following.deeds; since = since_of f; stands = is.following.stands; woven = is.following.woven; got = is.got; issued = is.issued }) (λ i above. refl));
+              (record { os = owners f; deeds = is.following.deeds; since = since_of f; stands = is.following.stands; woven = is.following.woven; got = is.got; issued = is.issued; so = is.so }) (λ i above. refl));
         });
       })
   arrives (Pauses n f p given es ds l pausing acts) to count_is s parts past entries run range few idle is =
@@ -425,5 +443,5 @@ module _ (g : Setting) (version count : ℕ) (counted : length g.homes ≡ count
         late = late-all n acts to left;
         snap =
             subst (λ (u : Service). IsSnap version count u n past) (sym run.0)
-            (record { os = owners f; deeds = is.following.deeds; since = since_of f; stands = is.following.stands; woven = is.following.woven; got = is.got; issued = is.issued });
+            (record { os = owners f; deeds = is.following.deeds; since = since_of f; stands = is.following.stands; woven = is.following.woven; got = is.got; issued = is.issued; so = is.so });
       })

@@ -6,14 +6,12 @@ use Rattle.charlotte_calls.specs.Names.{opposite}
 use Rattle.charlotte_calls.specs.declared.names.EndId.{EndId}
 use Rattle.service_step.specs.Ends.{is_living}
 use Rattle.service_step.specs.State.{State as Service}
-use Rattle.service_step.specs.declared.state.Place.{Place}
 use Rattle.service_step.specs.declared.state.Place.TheVariants as place
 use Rattle.end_protocol.specs.declared.kept.Kept.{Kept}
 use Rattle.end_protocol.specs.declared.messages.Connect.{Connect}
 use Rattle.end_protocol.specs.declared.messages.Message.{Message}
 use Rattle.end_protocol.specs.Deeds.{Deed}
 use Rattle.end_protocol.specs.Falling.{outstanding_ends, reply_ends, request_ends}
-use Rattle.process_run.specs.States.{Gone, Holding, Keeps}
 use Rattle.process_sound.proofs.Every.{every_append, every_weaker}
 use Rattle.process_changes.specs.Ledgers.{carried, how_often}
 use Rattle.process_changes.proofs.Counting.{both}
@@ -26,14 +24,15 @@ use Rattle.request_meaning.specs.Requests.{Request, accepted, issued}
 use Rattle.request_meaning.specs.Views.{asks}
 use Rattle.request_law.specs.Law.{EndsAreThere, back_on, ends_in, forth_on}
 use Rattle.request_runs.specs.Law.{HasAllEnds}
-use Rattle.request_runs.specs.Sides.{Destroyed, Free, Held, IsAs, IsKept, Lost, Side, Standing, is_destroyed}
+use Rattle.request_runs.specs.Sides.{Free, IsComing, IsKept, Side, Standing, is_destroyed}
 use Rattle.request_runs.proofs.Events.{Follows, from_start, has_all_ends}
-use Rattle.run_invariant.specs.Invariant.{IsFollowedTo, IsSide, IsSideAt, IsStandingIn, Owners, Stands}
+use Rattle.run_invariant.specs.Invariant.{IsSide, Owners, Stands}
+use Rattle.service_custody.specs.Coming.{coming}
 use Rattle.service_custody.specs.Deaths.{IsGone}
-use Rattle.service_custody.specs.Moves.{brings}
-use Rattle.run_invariant.specs.Owners.{seen_of}
+use Rattle.lost_ends.proofs.Counting.{undestroyed, some-or-none}
+use Rattle.lost_ends.specs.Stopped.{IsFollowedSo, IsFound, IsSideSo, IsStopped, ends_of}
 use Rattle.carried_ends.proofs.Arrived.{often-all}
-use Rattle.carried_ends.proofs.UnderWay.{IsAtEnd, coming-there, kept-there, some-or-none}
+use Rattle.carried_ends.proofs.UnderWay.{IsAtEnd, With, coming-at, coming-there, kept-there}
 
 -- it is at one of the two ends of the link, or was destroyed
 abbrev pub IsOnLink : Service → EndId → EndId → Type 0
@@ -43,19 +42,14 @@ IsOnLink s x y = (IsAtEnd s x y ⊎ IsAtEnd s (opposite x) y) ⊎ IsGone s y
 abbrev pub AreOnLink : Service → EndId → Request → Type 0
 AreOnLink s x r = AllByRecursion (IsOnLink s x) r.ends
 
--- A link that stands so, of which each end of a request is in one place. What it has as kept for an end that is lost, and as coming there, is still there
-pub record IsHeldSo (version : ℕ) (s : Service) (os : Owners) (deeds : EndId → List Deed) (x : EndId) (f : IsFollowedTo version s os deeds x) : Type 0 where
+-- A link with these deeds, of which each end of a request is in one place; and what it has as kept at either end, or as coming there, is on the link
+pub record IsHeldSo (s : Service) (deeds : EndId → List Deed) (x : EndId) : Type 0 where
   pub link : Link
-  pub is : IsAs f.pair link
   pub ends : EndsAreThere link
-  pub near_lost : f.pair.near.standing ≡ Lost → (y : EndId) → 1 ≤ how_often y (carried link.near) + how_often y (ends_in link.here) → IsOnLink s x y
-  pub far_lost : f.pair.far.standing ≡ Lost → (y : EndId) → 1 ≤ how_often y (carried link.far) + how_often y (ends_in link.there) → IsOnLink s x y
-
-pub lost-or-not : (st : Standing) → (st ≡ Lost) ⊎ (st ≡ Lost → ⊥)
-lost-or-not (Held k) = inr (λ e. let no : Held k ≡ Lost = e in cc)
-lost-or-not Free = inr (λ e. let no : Free ≡ Lost = e in cc)
-lost-or-not Lost = inl refl
-lost-or-not Destroyed = inr (λ e. let no : Destroyed ≡ Lost = e in cc)
+  pub near_deeds : link.near_deeds ≡ deeds x
+  pub far_deeds : link.far_deeds ≡ deeds (opposite x)
+  pub near : (y : EndId) → 1 ≤ how_often y (carried link.near) + how_often y (ends_in link.here) → IsOnLink s x y
+  pub far : (y : EndId) → 1 ≤ how_often y (carried link.far) + how_often y (ends_in link.there) → IsOnLink s x y
 
 -- ---- counting
 
@@ -110,19 +104,6 @@ quiet-phase version (Replied c r) none = refl
 quiet-phase version (Returning c r came x xs) none = refl
 
 module _ (version count : ℕ) (s : Service) (n : ℕ) (os : Owners) (deeds : EndId → List Deed) (is : Stands version count s n os deeds) where
-  pub undestroyed : (e : EndId) (side : Side) → IsSide version s os e side → ((s.ends e).place ≡ place.Destroyed → ⊥) → is_destroyed side.standing ≡ false
-  undestroyed e side sides stays = by (s.ends e).place refl sides
-    where
-      held : (m : ℕ) (o : Owners) (p : ℕ) (h : Holding) → IsStandingIn m (seen_of (o p) e) h side.standing → is_destroyed side.standing ≡ false
-      held m o p (Keeps k) stands = ap is_destroyed stands
-      held m o p (Gone own) stands = ⊎_elim (λ (free : side.standing ≡ Free). ap is_destroyed free) (λ (lost : side.standing ≡ Lost). ap is_destroyed lost) stands.0
-
-      by : (at : Place) → (s.ends e).place ≡ at → IsSideAt version s os e side at → is_destroyed side.standing ≡ false
-      by place.Unmade unmade at = ap (λ (z : Side). is_destroyed z.standing) at
-      by (place.Owned p) own at = held (brings s p e) os p.0 (seen_of (os p.0) e).holding at.standing
-      by (place.InMessage f m) inside at = ap is_destroyed at.0
-      by place.Destroyed gone at = absurd (stays gone)
-
   living-stays : (e : EndId) → is_living (s.ends e).place ≡ true → (s.ends e).place ≡ place.Destroyed → ⊥
   living-stays e lives gone = let no : false ≡ true = sym (ap is_living gone) ∙ lives in cc
 
@@ -131,7 +112,7 @@ module _ (version count : ℕ) (s : Service) (n : ℕ) (os : Owners) (deeds : En
   free-accepted x free stays =
       let follows : Follows version (is.links x).pair start = from_start version (is.links x).pair (is.links x).course in
       let uncut : follows.to.cut ≡ false =
-      follows.is.cut ∙ ap (λ (st : Standing). is_destroyed st || is_destroyed (is.links x).pair.far.standing) free ∙ undestroyed (opposite x) (is.links x).pair.far (is.links x).far stays in
+      follows.is.cut ∙ ap (λ (st : Standing). is_destroyed st || is_destroyed (is.links x).pair.far.standing) free ∙ undestroyed version s os (opposite x) (is.links x).pair.far (is.links x).far stays in
       let lives = run_lives version follows.to follows.runs uncut in
       let at = lives.near.at in
       let rests : follows.to.near ≡ fresh = subst (λ (st : Standing). IsKept st follows.to.near) free follows.is.near in
@@ -142,60 +123,73 @@ module _ (version count : ℕ) (s : Service) (n : ℕ) (os : Owners) (deeds : En
       ∙ ap (λ (cs : List Connect). accepted follows.to.far_deeds ++ map request_in cs) behind ∙ append-nil (accepted follows.to.far_deeds)
       ∙ ap accepted (follows.is.far_deeds ∙ (is.links x).far_deeds)
 
-  module _ (x : EndId) (near_lives : is_living (s.ends x).place ≡ true) (far_lives : is_living (s.ends (opposite x)).place ≡ true) where
-    abbrev f : IsFollowedTo version s os deeds x
-    f = is.links x
+  -- ---- a link of which no end is destroyed
 
-    -- where neither is lost it is so
-    pub held-so : (f.pair.near.standing ≡ Lost → ⊥) → (f.pair.far.standing ≡ Lost → ⊥) → IsHeldSo version s os deeds x f
-    held-so near_found far_found =
+  side-stays : (e : EndId) (side : Side) → IsSideSo version s os e side → is_living (s.ends e).place ≡ true → is_destroyed side.standing ≡ false
+  side-stays e side (inl found) lives = undestroyed version s os e side found.0 (living-stays e lives)
+  side-stays e side (inr stopped) lives = ap is_destroyed stopped.standing
+
+  -- what is kept and what is coming at one end
+  module _ (e : EndId) (side : Side) (lives : is_living (s.ends e).place ≡ true) (k : Kept) (ms : List Message) (kept : IsKept side.standing k) (comes : IsComing side.standing ms side.coming)
+      (y : EndId) (there : 1 ≤ how_often y (carried k) + how_often y (ends_in ms)) where
+    found-there : IsSide version s os e side → IsFound side → IsAtEnd s e y
+    found-there sides found =
+        ⊎_elim (λ (some : 1 ≤ how_often y (carried k)). kept-there version count s n os is.owners e side sides lives found k kept y some)
+        (λ (none : how_often y (carried k) < 1). coming-there version count s n os is.owners e side sides lives found ms comes y (omega (arith, there, none)))
+        (some-or-none (how_often y (carried k)))
+
+    stopped-there : IsStopped s os e side → IsAtEnd s e y ⊎ IsGone s y
+    stopped-there stopped =
+        ⊎_elim (λ (own : (s.ends y).place ≡ place.Owned stopped.owner). inl (With stopped.owner stopped.own own))
+        (λ (other : (1 ≤ how_often y (ends_of (coming s e))) ⊎ IsGone s y).
+        ⊎_elim (λ (some : 1 ≤ how_often y (ends_of (coming s e))). inl (coming-at version count s n os is.owners stopped.owner e stopped.own y some)) (λ (gone : IsGone s y). inr gone) other)
+        (stopped.there y (subst (λ (m : ℕ). 1 ≤ m) same there))
+      where
+        kept_is : k ≡ stopped.kept
+        kept_is = subst (λ (st : Standing). IsKept st k) stopped.standing kept
+
+        coming_is : ms ≡ side.coming
+        coming_is = subst (λ (st : Standing). IsComing st ms side.coming) stopped.standing comes
+
+        same : how_often y (carried k) + how_often y (ends_in ms) ≡ how_often y (carried stopped.kept) + how_often y (ends_in side.coming)
+        same = ap (λ (j : Kept). how_often y (carried j) + how_often y (ends_in ms)) kept_is ∙ ap (λ (l : List Message). how_often y (carried stopped.kept) + how_often y (ends_in l)) coming_is
+
+    at-side : IsSideSo version s os e side → IsAtEnd s e y ⊎ IsGone s y
+    at-side (inl found) = inl (found-there found.0 found.1)
+    at-side (inr stopped) = stopped-there stopped
+
+  module _ (x : EndId) (near_lives : is_living (s.ends x).place ≡ true) (far_lives : is_living (s.ends (opposite x)).place ≡ true) where
+    on-near : (y : EndId) → IsAtEnd s x y ⊎ IsGone s y → IsOnLink s x y
+    on-near y (inl at) = inl (inl at)
+    on-near y (inr gone) = inr gone
+
+    on-far : (y : EndId) → IsAtEnd s (opposite x) y ⊎ IsGone s y → IsOnLink s x y
+    on-far y (inl at) = inl (inr at)
+    on-far y (inr gone) = inr gone
+
+    pub held-so : IsFollowedSo version s os deeds x → IsHeldSo s deeds x
+    held-so f =
         let whole : HasAllEnds f.pair =
-        has_all_ends version f.pair f.course
-        (ap (λ (b : Bool). b || is_destroyed f.pair.far.standing) (undestroyed x f.pair.near f.near (living-stays x near_lives)) ∙ undestroyed (opposite x) f.pair.far f.far (living-stays (opposite x) far_lives)) in
+        has_all_ends version f.pair f.course (ap (λ (b : Bool). b || is_destroyed f.pair.far.standing) (side-stays x f.pair.near f.near near_lives) ∙ side-stays (opposite x) f.pair.far f.far far_lives) in
         record {
           link = whole.link;
-          is = whole.is;
           ends = whole.ends.near_ends;
-          near_lost = λ lost. absurd (near_found lost);
-          far_lost = λ lost. absurd (far_found lost);
+          near_deeds = whole.is.near_deeds ∙ f.near_deeds;
+          far_deeds = whole.is.far_deeds ∙ f.far_deeds;
+          near = λ y there. on-near y (at-side x f.pair.near near_lives whole.link.near whole.link.here whole.is.near whole.is.here y there f.near);
+          far = λ y there. on-far y (at-side (opposite x) f.pair.far far_lives whole.link.far whole.link.there whole.is.far whole.is.there y there f.far);
         }
 
-    module _ (held : IsHeldSo version s os deeds x f) where
+    module _ (held : IsHeldSo s deeds x) where
       abbrev l : Link
       l = held.link
-
-      near-kept : (y : EndId) → 1 ≤ how_often y (carried l.near) → IsOnLink s x y
-      near-kept y there =
-          ⊎_elim (λ lost. held.near_lost lost y (omega (arith, there))) (λ found. inl (inl (kept-there version count s n os is.owners x f.pair.near f.near near_lives found l.near held.is.near y there)))
-          (lost-or-not f.pair.near.standing)
-
-      far-kept : (y : EndId) → 1 ≤ how_often y (carried l.far) → IsOnLink s x y
-      far-kept y there =
-          ⊎_elim (λ lost. held.far_lost lost y (omega (arith, there))) (λ found. inl (inr (kept-there version count s n os is.owners (opposite x) f.pair.far f.far far_lives found l.far held.is.far y there)))
-          (lost-or-not f.pair.far.standing)
-
-      here-coming : (y : EndId) → 1 ≤ how_often y (ends_in l.here) → IsOnLink s x y
-      here-coming y there =
-          ⊎_elim (λ lost. held.near_lost lost y (omega (arith, there))) (λ found. inl (inl (coming-there version count s n os is.owners x f.pair.near f.near near_lives found l.here held.is.here y there)))
-          (lost-or-not f.pair.near.standing)
-
-      there-coming : (y : EndId) → 1 ≤ how_often y (ends_in l.there) → IsOnLink s x y
-      there-coming y there =
-          ⊎_elim (λ lost. held.far_lost lost y (omega (arith, there))) (λ found. inl (inr (coming-there version count s n os is.owners (opposite x) f.pair.far f.far far_lives found l.there held.is.there y there)))
-          (lost-or-not f.pair.far.standing)
 
       -- where it is counted, it is
       counted-there : (y : EndId) → 1 ≤ how_often y (carried l.near) + (how_often y (carried l.far) + (how_often y (ends_in l.here) + how_often y (ends_in l.there))) → IsOnLink s x y
       counted-there y there =
-          ⊎_elim (λ (near : 1 ≤ how_often y (carried l.near)). near-kept y near)
-          (λ (no_near : how_often y (carried l.near) < 1).
-          ⊎_elim (λ (far : 1 ≤ how_often y (carried l.far)). far-kept y far)
-          (λ (no_far : how_often y (carried l.far) < 1).
-          ⊎_elim (λ (here : 1 ≤ how_often y (ends_in l.here)). here-coming y here)
-          (λ (no_here : how_often y (ends_in l.here) < 1). there-coming y (omega (arith, there, no_near, no_far, no_here)))
-          (some-or-none (how_often y (ends_in l.here))))
-          (some-or-none (how_often y (carried l.far))))
-          (some-or-none (how_often y (carried l.near)))
+          ⊎_elim (λ (near : 1 ≤ how_often y (carried l.near) + how_often y (ends_in l.here)). held.near y near)
+          (λ (none : how_often y (carried l.near) + how_often y (ends_in l.here) < 1). held.far y (omega (arith, there, none)))
+          (some-or-none (how_often y (carried l.near) + how_often y (ends_in l.here)))
 
       abbrev ways : List EndId
       ways = request_ends l.far.request ++ (ends_in (forth_on l) ++ (ends_in (back_on l) ++ outstanding_ends l.near.outstanding))
@@ -229,10 +223,9 @@ module _ (version count : ℕ) (s : Service) (n : ℕ) (os : Owners) (deeds : En
       open-there = record {
         requests = held.ends.under_way ++ map request_in l.near.behind;
         issued_is =
-            sym (ap issued (held.is.near_deeds ∙ f.near_deeds)) ∙ held.ends.issued_is
-            ∙ ap (λ (ds : List Deed). accepted ds ++ (held.ends.under_way ++ map request_in l.near.behind)) (held.is.far_deeds ∙ f.far_deeds);
+            sym (ap issued held.near_deeds) ∙ held.ends.issued_is ∙ ap (λ (ds : List Deed). accepted ds ++ (held.ends.under_way ++ map request_in l.near.behind)) held.far_deeds;
         there =
             every_append (AreOnLink s x) held.ends.under_way (map request_in l.near.behind)
             (every_weaker (λ (r : Request). r.ends ≡ ways) (AreOnLink s x) (λ r same. subst (λ (xs : List EndId). AllByRecursion (IsOnLink s x) xs) (sym same) (often-all (IsOnLink s x) ways ways-there)) held.ends.under_way held.ends.ends)
-            (behind-there l.near.behind (λ y some. let sum = kept-sum y l.near in near-kept y (omega (arith, some, sum))));
+            (behind-there l.near.behind (λ y some. let sum = kept-sum y l.near in held.near y (omega (arith, some, sum))));
       }

@@ -12,6 +12,7 @@ use Rattle.service_step.specs.Ends.{is_living}
 use Rattle.service_step.specs.State.{State as Service}
 use Rattle.service_step.specs.declared.state.Place.{Place}
 use Rattle.service_step.specs.declared.state.Place.TheVariants as place
+use Rattle.service_custody.specs.Deaths.{IsGone}
 use Rattle.lynx_packets.specs.declared.value.RtValue.{RtValue}
 use Rattle.end_protocol.specs.Deeds.{Accepted, Deed, Issued, Replied, Returned}
 use Rattle.process_run.specs.States.{DeedOn}
@@ -26,7 +27,7 @@ use Rattle.carried_ends.proofs.Arrived.{AreGot, IsOwnOf}
 use Rattle.carried_ends.proofs.ArrivedAlong.{IsSeenAt, IsSnap}
 use Rattle.carried_ends.proofs.UnderWay.{Inside, IsAtEnd, With}
 use Rattle.carried_ends.proofs.UnderWayIssuers.{Closed, Dead, IsIssued, Open, accepted_there, issuer_of, issued-count, issuers, issuers-both}
-use Rattle.carried_ends.proofs.UnderWayLinks.{AreOnLink, HasOpen, IsHeldSo, IsOnLink, open-there}
+use Rattle.carried_ends.proofs.UnderWayLinks.{AreOnLink, HasOpen, IsHeldSo, IsOnLink, held-so, open-there}
 use Rattle.followed_links.proofs.Weaving.{on-both, same-owner}
 
 -- ---- lists
@@ -134,8 +135,7 @@ module _ (version count : ℕ) (s : Service) (n : ℕ) (past : List Done) (snap 
 
   module _ (before : List Done) (d : Done) (rest : List Done) (past_is : past ≡ before ++ d ∷ rest) (k : ℕ) (signature : List ℕ) (vs : List RtValue) (xs : List EndId) (deed_is : d.deed ≡ Issued k signature vs xs)
       (unaccepted : length (accepted (deeds_on (opposite d.on) past)) ≤ length (issued (deeds_on d.on before)))
-      (near_lives : is_living (s.ends d.on).place ≡ true) (far_lives : is_living (s.ends (opposite d.on)).place ≡ true)
-      (held : IsHeldSo version s snap.os snap.deeds d.on (snap.stands.links d.on)) where
+      (near_lives : is_living (s.ends d.on).place ≡ true) (far_lives : is_living (s.ends (opposite d.on)).place ≡ true) where
     abbrev x : EndId
     x = d.on
 
@@ -166,6 +166,12 @@ module _ (version count : ℕ) (s : Service) (n : ℕ) (past : List Done) (snap 
 
     all-accepted : accepted (snap.deeds (opposite x)) ≡ accepted (deeds_on (opposite x) past) ++ accepted far.more
     all-accepted = ap accepted far.is ∙ flat_map-append accepted_by (deeds_on (opposite x) past) far.more
+
+    stays : (e : EndId) → is_living (s.ends e).place ≡ true → IsGone s e → ⊥
+    stays e lives gone = let no : false ≡ true = sym (ap is_living gone) ∙ lives in cc
+
+    abbrev held : IsHeldSo s snap.deeds x
+    held = held-so version count s n snap.os snap.deeds snap.stands x near_lives far_lives (snap.so.links x (stays x near_lives) (stays (opposite x) far_lives))
 
     abbrev left : HasOpen version count s n snap.os snap.deeds snap.stands x near_lives far_lives held
     left = open-there version count s n snap.os snap.deeds snap.stands x near_lives far_lives held
@@ -235,9 +241,9 @@ module _ (version count : ℕ) (s : Service) (n : ℕ) (past : List Done) (snap 
 -- ---- after so many entries of a run
 
 pub under-way-at : (version count : ℕ) (states : States) (all : List Done) (n : ℕ) (seen : IsSeenAt version count states all n) (before : List Done) (d : Done) (behind : List Done) → all ≡ before ++ d ∷ behind
-    → IsUnderWay states before d all n → IsHeldSo version (states n) seen.snap.os seen.snap.deeds d.on (seen.snap.stands.links d.on)
+    → IsUnderWay states before d all n
     → AllByRecursion (λ x. IsBetween (states n) d.by d.on ((states n).ends x).place) (sends d.deed)
-under-way-at version count states all n seen before d behind is under held = by d.deed refl
+under-way-at version count states all n seen before d behind is under = by d.deed refl
   where
     split : (rest : List Done) × (seen.past ≡ before ++ d ∷ rest)
     split = is-past n seen.past seen.behind before d behind seen.late under.issued_before (sym seen.is ∙ is)
@@ -248,7 +254,7 @@ under-way-at version count states all n seen before d behind is under held = by 
     by : (z : Deed) → d.deed ≡ z → AllByRecursion (λ x. IsBetween (states n) d.by d.on ((states n).ends x).place) (sends z)
     by (Issued k signature vs xs) deed_is =
         request-between version count (states n) n seen.past seen.snap before d split.0 split.1 k signature vs xs deed_is
-        (subst (λ (l : List Done). length (accepted (deeds_on (opposite d.on) l)) ≤ length (issued (deeds_on d.on before))) same under.unaccepted) under.lives under.opposite_lives held
+        (subst (λ (l : List Done). length (accepted (deeds_on (opposite d.on) l)) ≤ length (issued (deeds_on d.on before))) same under.unaccepted) under.lives under.opposite_lives
     by (Accepted k signature vs xs) deed_is = tt
     by (Replied k status vs xs) deed_is = tt
     by (Returned k status vs xs) deed_is = tt

@@ -1,4 +1,4 @@
--- The law on each run.
+-- The laws on each run.
 use Rattle.std.proofs.Common.{ℕ, ◌≤◌, ◌^◌, List, All, length}
 use Rattle.std.specs.List.{AllByRecursion}
 use Rattle.charlotte_calls.specs.Setting.{IsValid}
@@ -7,15 +7,31 @@ use Rattle.kernel_entries.specs.Ranges.{IsPlacedInRange}
 use Rattle.kernel_entries.specs.declared.entry.Placed.{Placed}
 use Rattle.theorem.specs.Record.{IsLawfulRecord}
 use Rattle.language_links.specs.Acting.{Program}
-use Rattle.language_links.specs.Claims.{AreWith}
-use Rattle.request_acts.specs.Acted.{AreActed, deeds_of}
-use Rattle.request_acts.specs.Claimed.{AreWired, states_of}
+use Rattle.language_links.specs.Claims.{AreCarried, AreWith}
+use Rattle.request_acts.specs.Acted.{AreActed, AreReplayed, deeds_of}
+use Rattle.request_acts.specs.Claimed.{ActsAreLinked, AreWired, HasLinks, states_of}
+use Rattle.request_acts.proofs.Claims.{run-links}
 use Rattle.followed_links.proofs.Services.{moving, services}
-use Rattle.followed_links.proofs.Starting.{start-follows}
-use Rattle.followed_links.proofs.Whole.{processes}
-use Rattle.carried_ends.proofs.UnderWayCarried.{all-arrive}
+use Rattle.followed_links.proofs.Starting.{start-deeds, start-follows}
+use Rattle.followed_links.proofs.Whole.{processes, run-in-order}
+use Rattle.carried_ends.proofs.UnderWayCarried.{all-arrive, carried}
 
 pub run-arrives : (s : Setting) (programs : ℕ → Program) (merged : List Placed) (steps : ℕ → ℕ) → IsValid s → All IsPlacedInRange merged → length merged ≤ 2 ^ 28 → AreWired s programs
     → (lawful : IsLawfulRecord s merged) → (acted : AreActed s programs merged steps) → AllByRecursion (AreWith (states_of s merged lawful)) (deeds_of s programs merged steps acted)
 run-arrives s programs merged steps valid range few wired lawful acted =
-    (all-arrive s (services s.version (length s.homes)) (processes s.version (length s.homes)) moving programs merged steps lawful valid range few (start-follows s programs valid wired) acted).arrived
+    (all-arrive s (services s.version (length s.homes)) (processes s.version (length s.homes)) moving programs merged steps lawful valid range few (start-follows s programs valid wired) (start-deeds s programs valid wired) acted).arrived
+
+pub run-carried : (s : Setting) (programs : ℕ → Program) (merged : List Placed) (steps : ℕ → ℕ) → IsValid s → All IsPlacedInRange merged → length merged ≤ 2 ^ 28 → AreWired s programs
+    → (lawful : IsLawfulRecord s merged) → (acted : AreActed s programs merged steps) → AreCarried (states_of s merged lawful) (length merged) (deeds_of s programs merged steps acted)
+run-carried s programs merged steps valid range few wired lawful acted =
+    carried s (services s.version (length s.homes)) (processes s.version (length s.homes)) moving programs merged steps lawful valid range few (start-follows s programs valid wired) (start-deeds s programs valid wired) acted
+
+pub acts-linked : ActsAreLinked
+acts-linked s programs merged steps lawful valid range few wired acted = record {
+  in_order = run-in-order s programs merged steps valid range few wired lawful acted;
+  carried = run-carried s programs merged steps valid range few wired lawful acted;
+}
+
+pub run-has-links : (s : Setting) (programs : ℕ → Program) (merged : List Placed) (steps : ℕ → ℕ) (lawful : IsLawfulRecord s merged) → IsValid s → All IsPlacedInRange merged → length merged ≤ 2 ^ 28 → AreWired s programs
+    → AreReplayed s programs merged steps → HasLinks s programs merged steps lawful
+run-has-links = run-links acts-linked

@@ -178,8 +178,11 @@ module _ (g : Setting) (version count : ℕ) (keep : StepsKeep version count) (s
             (away-stays (owners f) qs deeds (steps_in part) is after i (λ above. ap (λ (l : Option Next). status_of l (f i).replayed.heard) (idle i above)) refl away)
             ∙ sym (heard-away g e f i away)
 
+    pub taken-owners : all_hear_steps (steps_in part) (owners f) ≡ owners (hears_entry (home_of g) e f)
+    taken-owners = same-owners qs (owners (hears_entry (home_of g) e f)) one
+
     pub taking-stands : Stands version count t (suc n) (owners (hears_entry (home_of g) e f)) deeds
-    taking-stands = subst (λ (os : Owners). Stands version count t (suc n) os deeds) (same-owners qs (owners (hears_entry (home_of g) e f)) one) after
+    taking-stands = subst (λ (os : Owners). Stands version count t (suc n) os deeds) taken-owners after
 
   -- ---- a call
 
@@ -216,9 +219,6 @@ module _ (g : Setting) (version count : ℕ) (keep : StepsKeep version count) (s
       status-before : (i : ℕ) → nat_eq p.0 i ≡ false → count ≤ i → (os i).status ≡ Runs
       status-before i other above = ap (λ (o : Owner). o.status) (at-other asker (owners f) i other) ∙ ap (λ (l : Option Next). status_of l (f i).replayed.heard) (idle i above)
 
-      by-owners : (qs : Owners) → Stands version count t (suc n) qs deeds → ((i : ℕ) → qs i ≡ owner_of (to i)) → Stands version count t (suc n) (owners to) deeds
-      by-owners qs after one = subst (λ (rs : Owners). Stands version count t (suc n) rs deeds) (same-owners qs (owners to) one) after
-
       -- who is not told by these steps of an entry hears them so
       other-told : (qs : Owners) (more : List ServiceStep) → Stands version count t (suc n) qs deeds → (i : ℕ) → nat_eq p.0 i ≡ false → qs i ≡ hearing i more (owner_of (f i))
           → hears_steps i e.entry.steps (owner_of (f i)).status ≡ hears_steps i more (owner_of (f i)).status → qs i ≡ owner_of (to i)
@@ -237,93 +237,109 @@ module _ (g : Setting) (version count : ℕ) (keep : StepsKeep version count) (s
               ∙ sym (heard-away g e (asked_by p given f) i away ∙ other-is i other)
 
       -- a print
-      printed : (bytes : List ℕ) → c ≡ call.Print bytes → e.entry.steps ≡ [] → Stands version count t (suc n) (owners to) deeds
-      printed bytes print none = by-owners qs after one
-        where
-          qs : Owners
-          qs = with_owner p.0 (owner_told (call.Print bytes) (Some answer.Ok) (os p.0)) os
+      module _ (text : List ℕ) (print : c ≡ call.Print text) (none : e.entry.steps ≡ []) where
+        abbrev pub printed-then : Owners
+        printed-then = with_owner p.0 (owner_told (call.Print text) (Some answer.Ok) (os p.0)) os
 
-          nothing : (l : List (ServiceStep × Service)) → steps_in l ≡ [] → state_after s l ≡ s
-          nothing [] e = refl
-          nothing (x ∷ l) e = let no : x.0 ∷ steps_in l ≡ [] = e in absurd cc
+        nothing : (l : List (ServiceStep × Service)) → steps_in l ≡ [] → state_after s l ≡ s
+        nothing [] e = refl
+        nothing (x ∷ l) e = let no : x.0 ∷ steps_in l ≡ [] = e in absurd cc
 
-          after : Stands version count t (suc n) qs deeds
-          after =
-              subst (λ (u : Service). Stands version count u (suc n) qs deeds) (sym (nothing part (entry.steps ∙ none)))
-              (keep.prints s n p.0 bytes os deeds below (ap (λ (o : Owner). o.status) (at-p asker (owners f)) ∙ ap Asks print) (more-entries version count n s os deeds is) (room-of version count n s os deeds is))
+        printed-after : Stands version count t (suc n) printed-then deeds
+        printed-after =
+            subst (λ (u : Service). Stands version count u (suc n) printed-then deeds) (sym (nothing part (entry.steps ∙ none)))
+            (keep.prints s n p.0 text os deeds below (ap (λ (o : Owner). o.status) (at-p asker (owners f)) ∙ ap Asks print) (more-entries version count n s os deeds is) (room-of version count n s os deeds is))
 
-          one : (i : ℕ) → qs i ≡ owner_of (to i)
-          one i = by (nat_eq p.0 i) refl
-            where
-              its : qs p.0 ≡ owner_of (to p.0)
-              its =
-                  at-p (owner_told (call.Print bytes) (Some answer.Ok) (os p.0)) os ∙ ap (owner_told (call.Print bytes) (Some answer.Ok)) (at-p asker (owners f))
-                  ∙ ap (λ (d : Call). record asker { status = told_of d (own_told p d []) }) (sym print)
-                  ∙ ap (λ (l : List ServiceStep). record asker { status = told_of c (own_told p c l) }) (sym none) ∙ sym told-p
+        printed-one : (i : ℕ) → printed-then i ≡ owner_of (to i)
+        printed-one i = by (nat_eq p.0 i) refl
+          where
+            its : printed-then p.0 ≡ owner_of (to p.0)
+            its =
+                at-p (owner_told (call.Print text) (Some answer.Ok) (os p.0)) os ∙ ap (owner_told (call.Print text) (Some answer.Ok)) (at-p asker (owners f))
+                ∙ ap (λ (d : Call). record asker { status = told_of d (own_told p d []) }) (sym print)
+                ∙ ap (λ (l : List ServiceStep). record asker { status = told_of c (own_told p c l) }) (sym none) ∙ sym told-p
 
-              by : (b : Bool) → nat_eq p.0 i ≡ b → qs i ≡ owner_of (to i)
-              by true same = subst (λ (j : ℕ). qs j ≡ owner_of (to j)) (eqb-true p.0 i same) its
-              by false other =
-                  other-told qs [] after i other (at-other (owner_told (call.Print bytes) (Some answer.Ok) (os p.0)) os i other ∙ at-other asker (owners f) i other)
-                  (ap (λ (l : List ServiceStep). hears_steps i l (owner_of (f i)).status) none)
+            by : (b : Bool) → nat_eq p.0 i ≡ b → printed-then i ≡ owner_of (to i)
+            by true same = subst (λ (j : ℕ). printed-then j ≡ owner_of (to j)) (eqb-true p.0 i same) its
+            by false other =
+                other-told printed-then [] printed-after i other (at-other (owner_told (call.Print text) (Some answer.Ok) (os p.0)) os i other ∙ at-other asker (owners f) i other)
+                (ap (λ (l : List ServiceStep). hears_steps i l (owner_of (f i)).status) none)
+
+        pub printed-owners : printed-then ≡ owners to
+        printed-owners = same-owners printed-then (owners to) printed-one
+
+        printed : Stands version count t (suc n) (owners to) deeds
+        printed = subst (λ (rs : Owners). Stands version count t (suc n) rs deeds) printed-owners printed-after
 
       -- any other call
-      begun : Begins p.0 c e.entry.steps → Stands version count t (suc n) (owners to) deeds
-      begun b = by-part part refl
-        where
-          rs : Owners
-          rs = with_owner p.0 (owner_told c (own_told p c (b.made ∷ [])) (os p.0)) os
+      module _ (b : Begins p.0 c e.entry.steps) where
+        abbrev pub first-then : Owners
+        first-then = with_owner p.0 (owner_told c (own_told p c (b.made ∷ [])) (os p.0)) os
 
-          qs : Owners
-          qs = all_hear_steps b.more rs
+        abbrev pub begun-then : Owners
+        begun-then = all_hear_steps b.more first-then
 
-          by-part : (l : List (ServiceStep × Service)) → part ≡ l → Stands version count t (suc n) (owners to) deeds
-          by-part [] empty = let no : [] ≡ b.made ∷ b.more = sym (ap steps_in empty) ∙ entry.steps ∙ b.is in absurd cc
-          by-part (x ∷ l) full =
-              let both : x.0 ∷ steps_in l ≡ b.made ∷ b.more = sym (ap steps_in full) ∙ entry.steps ∙ b.is in
-              let head : x.0 ≡ b.made = cc in
-              let tail : steps_in l ≡ b.more = cc in
-              let run : IsServiceStep s x.0 x.1 × IsRunFrom x.1 l = subst (IsRunFrom s) full entry.run in
-              let one_made : Stands version count x.1 (suc n) rs deeds =
-              keep.first s b.made x.1 n p.0 c os deeds below (ap (λ (o : Owner). o.status) (at-p asker (owners f))) (more-entries version count n s os deeds is) (room-of version count n s os deeds is)
-              (subst (λ (m : ServiceStep). IsServiceStep s m x.1) head run.0) b.first mine bytes in
-              let all : Stands version count (state_after x.1 l) (suc n) (all_hear_steps (steps_in l) rs) deeds =
-              uncalled-all version count keep l x.1 n rs deeds one_made (room-rs (room-of version count n s os deeds is)) run.1 (subst (λ (m : List ServiceStep). AllByRecursion IsUncalled m) (sym tail) b.uncalled) in
-              let after : Stands version count t (suc n) qs deeds =
-              subst (λ (u : Service). Stands version count u (suc n) qs deeds) (sym (ap (state_after s) full)) (subst (λ (m : List ServiceStep). Stands version count (state_after x.1 l) (suc n) (all_hear_steps m rs) deeds) tail all) in
-              by-owners qs after (one after)
-            where
-              room-rs : HasRoom count n os → HasRoom count n rs
-              room-rs room i within = subst (λ (o : Owner). length o.state.places ≤ 8192 + 8 * n) (sym (state-same i)) (room i within)
-                where
-                  state-same : (i : ℕ) → rs i ≡ record (os i) { status = (rs i).status }
-                  state-same i = by (nat_eq p.0 i) refl
-                    where
-                      by : (t : Bool) → nat_eq p.0 i ≡ t → rs i ≡ record (os i) { status = (rs i).status }
-                      by true same = subst (λ (j : ℕ). rs j ≡ record (os j) { status = (rs j).status }) (eqb-true p.0 i same) (at-p (owner_told c (own_told p c (b.made ∷ [])) (os p.0)) os ∙ ap (λ (status : Status). record (os p.0) { status = status }) (sym (ap (λ (o : Owner). o.status) (at-p (owner_told c (own_told p c (b.made ∷ [])) (os p.0)) os))))
-                      by false other = at-other (owner_told c (own_told p c (b.made ∷ [])) (os p.0)) os i other ∙ ap (λ (status : Status). record (os i) { status = status }) (sym (ap (λ (o : Owner). o.status) (at-other (owner_told c (own_told p c (b.made ∷ [])) (os p.0)) os i other)))
+        pub room-then : HasRoom count n first-then
+        room-then i within = subst (λ (o : Owner). length o.state.places ≤ 8192 + 8 * n) (sym (state_same i)) (room-of version count n s os deeds is i within)
+          where
+            its_status : (first-then p.0).status ≡ told_of c (own_told p c (b.made ∷ []))
+            its_status = ap (λ (o : Owner). o.status) (at-p (owner_told c (own_told p c (b.made ∷ [])) (os p.0)) os)
 
-              its : qs p.0 ≡ owner_of (to p.0)
-              its =
-                  ap (hearing p.0 b.more) (at-p (owner_told c (own_told p c (b.made ∷ [])) (os p.0)) os ∙ ap (owner_told c (own_told p c (b.made ∷ []))) (at-p asker (owners f)))
-                  ∙ ap (λ (status : Status). record asker { status = status }) (b.tells ∙ ap (λ (l : List ServiceStep). told_of c (own_told p c l)) (sym b.is)) ∙ sym told-p
+            state_same : (i : ℕ) → first-then i ≡ record (os i) { status = (first-then i).status }
+            state_same i = by (nat_eq p.0 i) refl
+              where
+                by : (t : Bool) → nat_eq p.0 i ≡ t → first-then i ≡ record (os i) { status = (first-then i).status }
+                by true same =
+                    subst (λ (j : ℕ). first-then j ≡ record (os j) { status = (first-then j).status }) (eqb-true p.0 i same)
+                    (at-p (owner_told c (own_told p c (b.made ∷ [])) (os p.0)) os ∙ ap (λ (status : Status). record (os p.0) { status = status }) (sym its_status))
+                by false other =
+                    at-other (owner_told c (own_told p c (b.made ∷ [])) (os p.0)) os i other
+                    ∙ ap (λ (status : Status). record (os i) { status = status }) (sym (ap (λ (o : Owner). o.status) (at-other (owner_told c (own_told p c (b.made ∷ [])) (os p.0)) os i other)))
 
-              skips : (i : ℕ) (status : Status) → hears_step i b.made status ≡ status
-              skips i Runs = refl
-              skips i (Asks d) = refl
-              skips i (Pends d) = first-silent p.0 i c b.made b.first d
-              skips i (Told d a) = refl
-              skips i Over = refl
+        begun-after : Stands version count t (suc n) begun-then deeds
+        begun-after = by-part part refl
+          where
+            by-part : (l : List (ServiceStep × Service)) → part ≡ l → Stands version count t (suc n) begun-then deeds
+            by-part [] empty = let no : [] ≡ b.made ∷ b.more = sym (ap steps_in empty) ∙ entry.steps ∙ b.is in absurd cc
+            by-part (x ∷ l) full =
+                let both : x.0 ∷ steps_in l ≡ b.made ∷ b.more = sym (ap steps_in full) ∙ entry.steps ∙ b.is in
+                let head : x.0 ≡ b.made = cc in
+                let tail : steps_in l ≡ b.more = cc in
+                let run : IsServiceStep s x.0 x.1 × IsRunFrom x.1 l = subst (IsRunFrom s) full entry.run in
+                let one_made : Stands version count x.1 (suc n) first-then deeds =
+                keep.first s b.made x.1 n p.0 c os deeds below (ap (λ (o : Owner). o.status) (at-p asker (owners f))) (more-entries version count n s os deeds is) (room-of version count n s os deeds is)
+                (subst (λ (m : ServiceStep). IsServiceStep s m x.1) head run.0) b.first mine bytes in
+                let all : Stands version count (state_after x.1 l) (suc n) (all_hear_steps (steps_in l) first-then) deeds =
+                uncalled-all version count keep l x.1 n first-then deeds one_made room-then run.1 (subst (λ (m : List ServiceStep). AllByRecursion IsUncalled m) (sym tail) b.uncalled) in
+                subst (λ (u : Service). Stands version count u (suc n) begun-then deeds) (sym (ap (state_after s) full)) (subst (λ (m : List ServiceStep). Stands version count (state_after x.1 l) (suc n) (all_hear_steps m first-then) deeds) tail all)
 
-              one : Stands version count t (suc n) qs deeds → (i : ℕ) → qs i ≡ owner_of (to i)
-              one after i = by (nat_eq p.0 i) refl
-                where
-                  by : (t : Bool) → nat_eq p.0 i ≡ t → qs i ≡ owner_of (to i)
-                  by true same = subst (λ (j : ℕ). qs j ≡ owner_of (to j)) (eqb-true p.0 i same) its
-                  by false other =
-                      other-told qs b.more after i other
-                      (ap (hearing i b.more) (at-other (owner_told c (own_told p c (b.made ∷ [])) (os p.0)) os i other ∙ at-other asker (owners f) i other))
-                      (ap (λ (l : List ServiceStep). hears_steps i l (owner_of (f i)).status) b.is ∙ ap (hears_steps i b.more) (skips i (owner_of (f i)).status))
+        skips : (i : ℕ) (status : Status) → hears_step i b.made status ≡ status
+        skips i Runs = refl
+        skips i (Asks d) = refl
+        skips i (Pends d) = first-silent p.0 i c b.made b.first d
+        skips i (Told d a) = refl
+        skips i Over = refl
+
+        begun-one : (i : ℕ) → begun-then i ≡ owner_of (to i)
+        begun-one i = by (nat_eq p.0 i) refl
+          where
+            its : begun-then p.0 ≡ owner_of (to p.0)
+            its =
+                ap (hearing p.0 b.more) (at-p (owner_told c (own_told p c (b.made ∷ [])) (os p.0)) os ∙ ap (owner_told c (own_told p c (b.made ∷ []))) (at-p asker (owners f)))
+                ∙ ap (λ (status : Status). record asker { status = status }) (b.tells ∙ ap (λ (l : List ServiceStep). told_of c (own_told p c l)) (sym b.is)) ∙ sym told-p
+
+            by : (t : Bool) → nat_eq p.0 i ≡ t → begun-then i ≡ owner_of (to i)
+            by true same = subst (λ (j : ℕ). begun-then j ≡ owner_of (to j)) (eqb-true p.0 i same) its
+            by false other =
+                other-told begun-then b.more begun-after i other
+                (ap (hearing i b.more) (at-other (owner_told c (own_told p c (b.made ∷ [])) (os p.0)) os i other ∙ at-other asker (owners f) i other))
+                (ap (λ (l : List ServiceStep). hears_steps i l (owner_of (f i)).status) b.is ∙ ap (hears_steps i b.more) (skips i (owner_of (f i)).status))
+
+        pub begun-owners : begun-then ≡ owners to
+        begun-owners = same-owners begun-then (owners to) begun-one
+
+        begun : Stands version count t (suc n) (owners to) deeds
+        begun = subst (λ (rs : Owners). Stands version count t (suc n) rs deeds) begun-owners begun-after
 
       pub calling-stands : AreOfCall p c e.entry.steps → Stands version count t (suc n) (owners to) deeds
       calling-stands of_call =

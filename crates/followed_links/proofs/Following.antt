@@ -5,6 +5,7 @@ use Rattle.std.specs.List.{AllByRecursion}
 use Rattle.charlotte_calls.specs.Ranges.{IsCallInRange}
 use Rattle.charlotte_calls.specs.declared.calls.Cause.{Cause}
 use Rattle.charlotte_calls.specs.declared.calls.Answer.{Answer}
+use Rattle.charlotte_calls.specs.declared.calls.Answer.TheVariants as answer
 use Rattle.charlotte_calls.specs.declared.calls.Call.{Call}
 use Rattle.charlotte_calls.specs.declared.calls.Call.TheVariants as call
 use Rattle.charlotte_calls.specs.declared.calls.ServiceStep.{ServiceStep}
@@ -25,7 +26,7 @@ use Rattle.service_step.specs.Steps.{IsServiceStep}
 use Rattle.service_step.specs.declared.state.Place.TheVariants as place
 use Rattle.service_streams.specs.Streams.{cancels_send, steps_in}
 use Rattle.service_custody.specs.Moves.{Moves}
-use Rattle.told_answers.specs.Told.{call_of, hears_by}
+use Rattle.told_answers.specs.Told.{call_of, hears_by, own_told}
 use Rattle.program_runs.specs.Replay.{IsGiven}
 use Rattle.entry_steps.specs.Entries.{AreEntries, AreOfEntry, IsEntry, IsOwn, IsUncalled}
 use Rattle.end_protocol.specs.Deeds.{Deed}
@@ -37,12 +38,12 @@ use Rattle.language_links.specs.Acting.{Acting, Acts, Calls, Done, Fleet, IsAski
 use Rattle.request_acts.specs.Acted.{home_of, process}
 use Rattle.request_acts.proofs.Callers.{none-else, own-call}
 use Rattle.request_acts.proofs.Fleets.{asked_by, heard-here, heard-not, heard_by, set-other, set-self}
-use Rattle.run_invariant.specs.Hearing.{owners, with_owner}
+use Rattle.run_invariant.specs.Hearing.{all_hear_steps, owner_told, owners, with_owner}
 use Rattle.run_invariant.specs.Invariant.{Owners, Stands}
 use Rattle.run_invariant.specs.Owners.{Asks, IsAskedFor, Owner, Status, given_of, owner_of, status_of}
-use Rattle.run_invariant.specs.Steps.{HasBytes, IsFirst, IsMine, IsStepped, MayStep, after_step, owner_after}
+use Rattle.run_invariant.specs.Steps.{HasBytes, HasRoom, IsFirst, IsMine, IsStepped, MayStep, after_step, owner_after}
 use Rattle.followed_links.proofs.Entries.{StepsKeep}
-use Rattle.followed_links.proofs.Calling.{AreIdle, Begins, IsPrint, below-or-above, calling-stands, same-owners, steps-begin, taking-stands}
+use Rattle.followed_links.proofs.Calling.{AreIdle, Begins, IsPrint, begun-owners, below-or-above, calling-stands, printed-owners, room-then, same-owners, steps-begin, taken-owners, taking-stands}
 use Rattle.followed_links.proofs.Passing.{IsOwnStep, weaves-step, weaves-uncalled}
 use Rattle.followed_links.proofs.Told.{called-told, given-is, hears-told, paused-given, paused-status}
 use Rattle.followed_links.proofs.Weaving.{AreWoven, adding, flushing, weaves-call, weaves-on}
@@ -152,6 +153,9 @@ module _ (g : Setting) (version count : ℕ) (counted : length g.homes ≡ count
           by true same = sym its-owner
           by false other = refl
 
+      pub paused-owners : with_owner p.0 (owner_after d) (owners f) ≡ owners to
+      paused-owners = same-owners (with_owner p.0 (owner_after d) (owners f)) (owners to) one-owner
+
       one-since : (i : ℕ) → adding p.0 d.deeds (since_of f) i ≡ since_of to i
       one-since i = by (nat_eq p.0 i)
         where
@@ -169,7 +173,7 @@ module _ (g : Setting) (version count : ℕ) (counted : length g.homes ≡ count
       pub pauses-follow : IsFollowing version count s n to past
       pauses-follow = record {
         deeds = λ x. is.deeds x ++ deeds_at x d.deeds;
-        stands = subst (λ (os : Owners). Stands version count s n os (λ x. is.deeds x ++ deeds_at x d.deeds)) (same-owners (with_owner p.0 (owner_after d) (owners f)) (owners to) one-owner) one-step.stands;
+        stands = subst (λ (os : Owners). Stands version count s n os (λ x. is.deeds x ++ deeds_at x d.deeds)) paused-owners one-step.stands;
         idle = λ i above. ap (λ (z : Acting). z.replayed.last) (set-other p (paused given now) f i (not-it i above)) ∙ is.idle i above;
         silent = λ i above. ap (λ (z : Acting). z.since) (set-other p (paused given now) f i (not-it i above)) ∙ is.silent i above;
         told =
@@ -233,6 +237,9 @@ module _ (g : Setting) (version count : ℕ) (counted : length g.homes ≡ count
               (weaves-uncalled moving.moves moving.consistent (since_of f) past is.deeds count (is.silent count (omega arith)) part s is.stands.owners.consistent entry.run
               (subst (λ (l : List ServiceStep). AllByRecursion IsUncalled l) (sym entry.steps) un) is.woven);
         }
+
+    pub taken-then : ((p : Pid) → call_of p e.entry.what ≡ None) → all_hear_steps (steps_in part) (owners f) ≡ owners (hears_entry (home_of g) e f)
+    taken-then none = taken-owners g version count services s n e part entry f is.deeds is.stands is.idle none (taken-uncalled e.entry.what refl none)
 
     pub takes-deeds : (none : (p : Pid) → call_of p e.entry.what ≡ None) → (takes-follow none).deeds ≡ is.deeds
     unfolding takes-follow
@@ -302,6 +309,25 @@ module _ (g : Setting) (version count : ℕ) (counted : length g.homes ≡ count
       called-stands : Stands version count t (suc n) (owners later) deeds_now
       called-stands =
           calling-stands g version count services s n e part entry f deeds_now p c given asking.asks below is_call (λ i other. none-else p i c e.entry.what is_call other) here is.idle mine bytes asked of-entry.2
+
+      -- the owners behind its steps
+      abbrev pub asking-owners : Owners
+      asking-owners = with_owner p.0 asker (owners f)
+
+      pub printed-then : (text : List ℕ) → c ≡ call.Print text → e.entry.steps ≡ [] → with_owner p.0 (owner_told (call.Print text) (Some answer.Ok) (asking-owners p.0)) asking-owners ≡ owners later
+      printed-then text print none =
+          printed-owners g version count services s n e part entry f deeds_now p c given asking.asks below is_call (λ i other. none-else p i c e.entry.what is_call other) here is.idle mine bytes asked text print none
+
+      abbrev pub first-owners : Begins p.0 c e.entry.steps → Owners
+      first-owners b = with_owner p.0 (owner_told c (own_told p c (b.made ∷ [])) (asking-owners p.0)) asking-owners
+
+      pub begun-room : (b : Begins p.0 c e.entry.steps) → HasRoom count n (first-owners b)
+      begun-room b =
+          room-then g version count services s n e part entry f deeds_now p c given asking.asks below is_call (λ i other. none-else p i c e.entry.what is_call other) here is.idle mine bytes asked b
+
+      pub begun-then : (b : Begins p.0 c e.entry.steps) → all_hear_steps b.more (first-owners b) ≡ owners later
+      begun-then b =
+          begun-owners g version count services s n e part entry f deeds_now p c given asking.asks below is_call (λ i other. none-else p i c e.entry.what is_call other) here is.idle mine bytes asked b
 
       -- ---- its deeds
 

@@ -151,18 +151,18 @@ starts-new g x = wires-new g.homes g.wires (nothing_wired g.kernels) (λ y. inl 
 -- ---- links
 
 -- an end that is held, or is not
-abbrev side_of : Bool → Side
+abbrev pub side_of : Bool → Side
 side_of true = record { standing = Held fresh; coming = [] }
 side_of false = new_side
 
-abbrev pair_of : Bool → Bool → Pair
+abbrev pub pair_of : Bool → Bool → Pair
 pair_of a b = record { near = side_of a; far = side_of b; near_deeds = []; far_deeds = [] }
 
 near-course : (version : ℕ) (a : Bool) → Courses version new_pair (pair_of a false)
 near-course version false = Rests new_pair
 near-course version true = Goes new_pair new_pair (pair_of true false) (Rests new_pair) (Holds new_pair refl)
 
-both-course : (version : ℕ) (a b : Bool) → Courses version new_pair (pair_of a b)
+pub both-course : (version : ℕ) (a b : Bool) → Courses version new_pair (pair_of a b)
 both-course version a false = near-course version a
 both-course version a true =
     Goes new_pair (pair_of a false) (pair_of a true) (near-course version a)
@@ -255,7 +255,7 @@ module _ (g : Setting) (programs : ℕ → Program) where
       by true l none = refl
       by false l none = none
 
-  abbrev HasSide : EndId → Type 0
+  abbrev pub HasSide : EndId → Type 0
   HasSide x = (b : Bool) × IsSide g.version s os x (side_of b)
 
   abbrev StandsSo : ℕ → EndId → Bool → Type 0
@@ -280,7 +280,7 @@ module _ (g : Setting) (programs : ℕ → Program) where
       none-spelled true = tt
       none-spelled false = tt
 
-  has-side : (x : EndId) → HasSide x
+  pub has-side : (x : EndId) → HasSide x
   has-side x = by (starts-new g x)
     where
       by : IsNew (s.ends x) → HasSide x
@@ -310,3 +310,8 @@ start-follows g programs valid wired = record {
   told = λ i. tt;
   woven = record { own = λ x i is. refl; rest = λ x unowned. refl; none = λ x i away. refl };
 }
+
+-- nothing was done
+pub start-deeds : (g : Setting) (programs : ℕ → Program) (valid : IsValid g) (wired : AreWired g programs) → (start-follows g programs valid wired).deeds ≡ (λ x. [])
+unfolding start-follows
+start-deeds g programs valid wired = refl

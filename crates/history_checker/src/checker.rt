@@ -1,5 +1,5 @@
 //! A history, checked line by line.
-ghost use Rattle.std.specs.Prelude.{◌≡◌, ◌∷◌, ◌++◌, [], ℕ, List, Some, IfOk, OnOk, MatchResult, true};
+ghost use Rattle.std.specs.Prelude.{◌≡◌, ◌∷◌, ◌++◌, [], ℕ, List, None, Some, IfOk, OnOk, MatchResult, true};
 ghost use Rattle.history_checker.specs.Reading.{HasBegun, HasRead, IsFor, IsRefused, Reads, answer_of, is_one_line};
 ghost use Rattle.history_run.specs.Follow.{Follows};
 ghost use Rattle.history_run.specs.declared.fault.HistoryFault.{HistoryFault as AFault};
@@ -22,7 +22,8 @@ impl Checker {
     /// Before the first line.
     #[tactic(auto, using(crate::proofs::Steps::starts))]
     pub fn new(alloc: Global) -> Result<Checker, NoMemory>
-        ensures { IfOk result (HasRead []) }
+        ensures read { IfOk result (HasRead []) }
+        ensures fresh { IfOk result (λ c. (c.refusal ≡ None) × (c.why.items ≡ [])) }
     {
         Ok(Checker {
             history: History::new(alloc)?,
@@ -52,6 +53,13 @@ impl Checker {
         ensures { result.now ≡ self.now.why.items }
     {
         self.why.as_slice()
+    }
+
+    /// The history as far as its lines stood.
+    pub fn history(&self) -> &History
+        ensures { result.now ≡ self.now.history }
+    {
+        &self.history
     }
 
     /// Whether the line stood that says what the text is.

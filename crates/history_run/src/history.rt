@@ -4,12 +4,12 @@ ghost use Rattle.history_text.specs.Given.{setting_given};
 ghost use Rattle.link_service.specs.Service.{state_of};
 ghost use Rattle.history_run.specs.Runs.{IsAct, IsOwners};
 ghost use Rattle.service_step.specs.Run.{start_state};
-ghost use Rattle.history_run.specs.Follow.{IsNew, IsActFault, IsBeginFault, IsStartFault, IsStepFault, IsFaultOf, Begins, Follows, Makes};
+ghost use Rattle.history_run.specs.Follow.{state_now, IsNew, IsActFault, IsBeginFault, IsStartFault, IsStepFault, IsFaultOf, Begins, Follows, Makes};
 
 use crate::fault::HistoryFault;
 use charlotte_calls::{EndId, NoMemory, Pid, ServiceStep};
 use history_text::{Act, Draft};
-use link_service::{ApplyFault, Service};
+use link_service::{ApplyFault, Place, Service};
 use std::alloc::Global;
 
 /// A history as far as it was followed: what its lines said, and the service after their steps.
@@ -67,6 +67,18 @@ impl History {
     /// The service after the steps.
     pub fn service(&self) -> &Service {
         &self.service
+    }
+
+    /// Where an end is after the lines so far. Where no step was told, the service is started for the answer alone.
+    pub fn place(&self, alloc: Global, end: EndId) -> Result<Place, HistoryFault>
+        ensures ok { IfOk result (λ p. p ≡ ((state_now self.now.begun self.now.service self.now.draft).ends end).place) }
+        ensures fault { IfErr result (IsBeginFault self.now) }
+    {
+        if self.begun {
+            return Ok(self.service.place(end));
+        }
+        let service = start(alloc, &self.draft)?;
+        Ok(service.place(end))
     }
 
     /// Makes the step that was told.

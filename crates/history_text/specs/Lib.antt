@@ -1,4 +1,5 @@
-pub mod Names
-pub mod Given
+pub mod Ends
 pub mod Forms
+pub mod Given
 pub mod Lines
+pub mod Names

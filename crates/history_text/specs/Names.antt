@@ -1,5 +1,5 @@
 -- Names of processes and links, and tables of them.
-use Rattle.std.specs.Prelude.{◌≡◌, ℕ, List, Bool, ◌&&◌, ◌||◌, nat_le, ◌==◌, if◌then◌else◌, is_some, length, Option, Some, None, Result, Ok, Err}
+use Rattle.std.specs.Prelude.{◌≡◌, ℕ, List, Bool, ◌&&◌, ◌||◌, nat_le, ◌==◌, if◌then◌else◌, is_some, length, slice_get, [], Option, Some, None, Result, Ok, Err}
 use Rattle.std.specs.List.{list_all}
 use Rattle.std.specs.Map.{lookup}
 use Rattle.std.specs.Cmp.{IsEquivalence}
@@ -41,6 +41,14 @@ Table X = List (List ℕ × X)
 -- what a name was told to be
 abbrev pub look : {X : Type 0} → Table X → List ℕ → Option X
 look names name = lookup (bytes_eq name) names
+
+abbrev pub name_of_entry : {X : Type 0} → Option (List ℕ × X) → List ℕ
+name_of_entry None = []
+name_of_entry (Some entry) = entry.0
+
+-- the name at a place of a table
+abbrev pub name_at : {X : Type 0} → Table X → ℕ → List ℕ
+name_at names n = name_of_entry (slice_get names n)
 
 abbrev pub found : {X : Type 0} → Option X → Result X Fault
 found None = Err Form

@@ -1,8 +1,8 @@
 //! What the lines of a history said so far.
-ghost use Rattle.std.specs.Prelude.{◌≡◌, ℕ, if◌then◌else◌, Some, None, IfOk, OnOk, length};
+ghost use Rattle.std.specs.Prelude.{◌≡◌, ℕ, if◌then◌else◌, Some, None, IfOk, OnOk, length, ◌≤◌};
 ghost use Rattle.history_text.specs.Given.{Given, nothing, next_given, setting_given, with_link, with_meaning, with_process};
 ghost use Rattle.history_text.specs.Lines.{missing_at};
-ghost use Rattle.history_text.specs.Names.{look, found, told, untold};
+ghost use Rattle.history_text.specs.Names.{look, found, name_at, told, untold};
 
 use crate::meaning::Meaning;
 use crate::name::{Name, Sought};
@@ -215,7 +215,10 @@ impl Draft {
     }
 
     /// The name of a process.
-    pub fn name_of_process(&self, p: Pid) -> &[u8] {
+    pub fn name_of_process(&self, p: Pid) -> &[u8]
+        ensures name { result.now ≡ name_at self.now.processes p.0 }
+        ensures within { length result.now ≤ 32 }
+    {
         match self.processes.get_index(usize::from(p.0)) {
             Some((name, _)) => name.as_slice(),
             None => &[],
@@ -223,7 +226,9 @@ impl Draft {
     }
 
     /// The name of a link. It looks at each link that was told.
-    pub fn name_of_link(&self, link: LinkId) -> &[u8] {
+    pub fn name_of_link(&self, link: LinkId) -> &[u8]
+        ensures within { length result.now ≤ 32 }
+    {
         for (name, told) in self.links.iter() {
             if *told == link {
                 return name.as_slice();

@@ -2,6 +2,7 @@
 ghost use Rattle.std.specs.Prelude.{◌≡◌, ◌<◌, ◌≤◌, ℕ};
 ghost use Rattle.charlotte_text.specs.Reading.{Gives, side_of};
 ghost use Rattle.charlotte_text.specs.Spelling.{most_ends};
+ghost use Rattle.history_text.specs.Ends.{told_end};
 ghost use Rattle.history_text.specs.Names.{Takes};
 ghost use Rattle.transcript_reading.specs.Forms.{first_of, only_of};
 ghost use Rattle.history_text.specs.Forms.{before_last, split_end, untold_link, link_of, end_of, plus_end_of, ends_of, end_number_of, end_way_of};
@@ -97,6 +98,13 @@ impl Draft {
             [b'+', end @ ..] => self.read_end(scope, end),
             _ => Err(Fault::Form),
         }
+    }
+
+    /// The end of a name, as `mail.a`.
+    pub fn end_named(&self, name: &[u8]) -> Result<EndId, Fault>
+        ensures { result ≡ told_end self.now name.now }
+    {
+        self.read_end(Scope::Step, name)
     }
 
     /// The next word, an end.

@@ -127,7 +127,8 @@ impl Name {
 
     /// Its bytes.
     pub fn as_slice(&self) -> &[u8]
-        ensures { result.now ≡ self.now }
+        ensures same { result.now ≡ self.now }
+        ensures within { length result.now ≤ 32 }
     {
         self.bytes.as_slice()
     }

@@ -1,7 +1,9 @@
 -- Threads that are counted and found.
-use Rattle.std.proofs.Common.{arith, ◌≡◌, ℕ, zero, suc, ◌+◌, ◌<◌, ◌≤◌, List, [], ◌∷◌, ◌++◌, length, replicate, take, ℤ, pos, negsuc, IsTrue, nat_abs, Bool, true, false, Option, Some, None, is_some, slice_get, refl, sym, ap, subst, ◌∙◌, ⊎_elim, true≢false, length-take-le}
+use Rattle.std.proofs.Common.{arith, ◌≡◌, ℕ, zero, suc, ◌+◌, ◌<◌, ◌≤◌, List, [], ◌∷◌, ◌++◌, length, replicate, take, ℤ, pos, negsuc, IsTrue, nat_abs, Bool, true, false, nat_lt, Option, Some, None, MatchOption, is_some, slice_get, refl, sym, ap, subst, ◌∙◌, ⊎_elim, true≢false, length-take-le}
 use Rattle.std.specs.Prelude.{slice_index_or}
+use Rattle.std.proofs.lemmas.Bool.{ltb_from_iff}
 use Rattle.machine_turns.specs.Threads.{Standing}
+use Rattle.machine_turns.specs.Turns.{Turns, IsFree, most_threads}
 use Rattle.std.proofs.lemmas.Bool.Decides.{nat_tests}
 use Rattle.typing_rules.specs.Types.{is_length}
 use Rattle.machine_sound.proofs.Placing.{decided}
@@ -96,6 +98,12 @@ pub full : (ts us : List (Option Standing)) (n : ℕ) → ts ≡ us → length t
 full ts us n all size past stand =
     let long = ap length (sym all) ∙ size in
     all_stand us (λ k less. stand k (omega arith)) ∙ long
+
+-- one more fits where a number is free
+pub fits_one : (t : Turns) (o : Option ℕ) (b : Bool) → length t.threads ≡ most_threads → b ≡ is_some o → MatchOption o (how_many t.threads ≡ most_threads) (λ n. IsFree n t)
+    → b ≡ nat_lt (how_many t.threads) most_threads
+fits_one t None b size is full = ltb_from_iff (λ one. absurd (true≢false (sym one ∙ is)), λ less. absurd (omega (arith, less, full)))
+fits_one t (Some n) b size is free = let less = one_free t.threads n free in ltb_from_iff (λ one. omega (arith, less, size), λ small. is)
 
 -- a thread is at its place
 at_place : (ts : List (Option Standing)) (n : ℕ) (o p : Option Standing) → slice_get ts n ≡ Some p → slice_index_or ts n o ≡ p

@@ -1,6 +1,6 @@
 //! What the process does to the threads of its machine.
 
-ghost use Rattle.std.specs.Prelude.{◌≡◌, ◌+◌, ◌↔◌, [], ◌∷◌, ◌++◌, true, IfOk, OnOk, OnErr, IsNone, IfSome, IfNone, MatchOption, Some, None, slice_get};
+ghost use Rattle.std.specs.Prelude.{◌≡◌, ◌+◌, ◌↔◌, [], ◌∷◌, ◌++◌, true, IfOk, OnOk, OnErr, IsNone, IfSome, IfNone, MatchOption, Some, None, length, slice_get, nat_lt};
 ghost use Rattle.machine_turns.specs.Threads.{Standing, begun};
 ghost use Rattle.machine_turns.specs.Turns.{IsFree, given_to, is_ready_after, spawned, with_thread, most_threads};
 ghost use Rattle.machine_values.specs.Told.{values_of};
@@ -81,6 +81,7 @@ impl Machine {
     fn free_number(&self) -> Option<u8>
         ensures free { MatchOption result (how_many self.now.turns.threads ≡ most_threads) (λ n. IsFree n self.now.turns) }
         ensures first { IfSome result (λ n. StandBelow n self.now.turns) }
+        ensures places { length self.now.turns.threads ≡ most_threads }
     {
         for number in 0..32_u8 {
             if !self.threads[usize::from(number)].stands() {
@@ -88,6 +89,13 @@ impl Machine {
             }
         }
         None
+    }
+
+    /// Whether one more thread fits.
+    pub fn has_room(&self) -> bool
+        ensures { result ≡ nat_lt (how_many self.now.turns.threads) most_threads }
+    {
+        self.free_number().is_some()
     }
 
     // The thread of an entry before its first instruction.

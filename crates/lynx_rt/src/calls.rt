@@ -13,6 +13,8 @@ ghost use Rattle.process_sound.specs.May.{AnyState, AreSendable, MayCall};
 ghost use Rattle.lynx_rt.specs.Kept.{IsProcess};
 ghost use Rattle.lynx_rt.specs.May.{MayAskFor, MayComeTo};
 ghost use Rattle.lynx_rt.specs.Steps.{Asks, DestroysOf, IsFirstCall, Leads, StopsSo, due_by, first_at, next_if};
+ghost use Rattle.process_run.specs.States as process;
+ghost use Rattle.charlotte_calls.specs.declared.calls.Call.TheVariants as call;
 ghost use Rattle.charlotte_calls.specs.declared.program.Next.TheVariants as next;
 
 use crate::asked::Asked;
@@ -48,9 +50,18 @@ impl Running {
         let Some(on) = self.doomed.take() else {
             return false;
         };
+        self.ask_destroy(on, out);
+        true
+    }
+
+    /// A Destroy of an end. It stands apart, so that where none is doomed no place for a call is cleared.
+    #[inline(never)]
+    fn ask_destroy(&mut self, on: EndId, out: &mut Next)
+        ensures asked { self.new ≡ record self.old { asked = process.Destroy } }
+        ensures next { out.new ≡ next.Ask (call.Destroy on) }
+    {
         self.asked = Asked::Destroy;
         *out = Next::Ask(Call::Destroy { on });
-        true
     }
 
     /// Each allow that is due is queued. Gives the first end on which a call is due.
@@ -63,7 +74,8 @@ impl Running {
         self.places.due(room)
     }
 
-    /// The call that is due on an end, if the end is held.
+    /// The call that is due on an end, if the end is held. It stands apart too.
+    #[inline(never)]
     fn call_of(&mut self, number: u32, due: Due, out: &mut Next) -> bool
         requires { AreSendable self.old }
         ensures { Asks (asking_on self.old.version number due (held_at number self.old)) self.old (next_if result out.new) self.new }

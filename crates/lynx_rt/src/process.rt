@@ -92,10 +92,10 @@ impl Running {
     }
 
     /// The next step, with the answer to the call of the last one.
-    pub(crate) fn step(&mut self, answer: Option<Answer>, out: &mut Next) -> Result<(), NoMemory>
+    pub(crate) fn step(&mut self, answer: &Option<Answer>, out: &mut Next) -> Result<(), NoMemory>
         requires process { IsProcess self.old }
-        requires may { MayStep self.old answer }
-        ensures step { OnOk result (◌≡◌ {A = Next × State} (out.new, self.new) (step self.old answer)) }
+        requires may { MayStep self.old answer.now }
+        ensures step { OnOk result (◌≡◌ {A = Next × State} (out.new, self.new) (step self.old answer.now)) }
         ensures process { OnOk result (IsProcess self.new) }
     {
         if is_exit(self.asked) {
@@ -212,6 +212,9 @@ impl Running {
         ensures { result ≡ room self.now }
     {
         let coming = self.places.coming();
+        if coming == 0 {
+            return self.machine.has_room();
+        }
         coming < 32 && usize::from(self.machine.standing()) + coming < 32
     }
 
@@ -223,7 +226,7 @@ impl Running {
         if self.places.kept(number).is_none() {
             return None;
         }
-        self.places.let_go(number, false)
+        self.places.take(number)
     }
 
     /// The end is held no longer. Gives what was kept for it.

@@ -70,7 +70,7 @@ impl Program for LynxProcess {
         // Where the step is not made, nothing is known of the process any more, and it makes none.
         let mut next = Next::Ended;
         self.last = Some(NextSeen::of(&next));
-        self.process.step(answer, &mut next)?;
+        self.process.step(&answer, &mut next)?;
         self.last = Some(NextSeen::of(&next));
         Ok(next)
     }

@@ -32,11 +32,11 @@ impl Running {
     pub(crate) fn hear_answer(
         &mut self,
         asked: Asked,
-        answer: Option<Answer>,
+        answer: &Option<Answer>,
     ) -> Result<(), NoMemory>
         requires process { IsProcess self.old }
-        requires may { MayAnswer (asked_of asked) answer self.old }
-        ensures heard { OnOk result (self.new ≡ (answered (asked_of asked) answer self.old).state) }
+        requires may { MayAnswer (asked_of asked) answer.now self.old }
+        ensures heard { OnOk result (self.new ≡ (answered (asked_of asked) answer.now self.old).state) }
         ensures process { OnOk result (IsProcess self.new) }
     {
         match asked {
@@ -51,27 +51,27 @@ impl Running {
     }
 
     /// The answer to a Make.
-    fn hear_made(&mut self, thread: u8, answer: Option<Answer>) -> Result<(), NoMemory>
+    fn hear_made(&mut self, thread: u8, answer: &Option<Answer>) -> Result<(), NoMemory>
         requires process { IsProcess self.old }
-        requires may { MayAnswer (process.Make thread) answer self.old }
-        ensures heard { OnOk result (self.new ≡ (answered (process.Make thread) answer self.old).state) }
+        requires may { MayAnswer (process.Make thread) answer.now self.old }
+        ensures heard { OnOk result (self.new ≡ (answered (process.Make thread) answer.now self.old).state) }
         ensures process { OnOk result (IsProcess self.new) }
     {
         match answer {
             Some(Answer::Made(a, b)) => self.go_on_with(
                 thread,
                 &[RtValue::Link, RtValue::Link],
-                &[a, b],
+                &[*a, *b],
             ),
             _ => self.raise(thread, Exception::LinksFull),
         }
     }
 
     /// The answer to a Wait.
-    fn hear_waited(&mut self, answer: Option<Answer>) -> Result<(), NoMemory>
+    fn hear_waited(&mut self, answer: &Option<Answer>) -> Result<(), NoMemory>
         requires process { IsProcess self.old }
-        requires may { MayAnswer process.Wait answer self.old }
-        ensures heard { OnOk result (self.new ≡ (answered process.Wait answer self.old).state) }
+        requires may { MayAnswer process.Wait answer.now self.old }
+        ensures heard { OnOk result (self.new ≡ (answered process.Wait answer.now self.old).state) }
         ensures process { OnOk result (IsProcess self.new) }
     {
         match answer {
@@ -83,10 +83,10 @@ impl Running {
         }
     }
 
-    fn sent(&mut self, number: u32, answer: Option<Answer>) -> Result<(), NoMemory>
+    fn sent(&mut self, number: u32, answer: &Option<Answer>) -> Result<(), NoMemory>
         requires process { IsProcess self.old }
         requires raises { MayRaise (raised_at number self.old) DeadLink self.old }
-        ensures heard { OnOk result (self.new ≡ at_end number (sent_so answer) self.old) }
+        ensures heard { OnOk result (self.new ≡ at_end number (sent_so answer.now) self.old) }
         ensures process { OnOk result (IsProcess self.new) }
     {
         match answer {
@@ -96,10 +96,10 @@ impl Running {
         }
     }
 
-    fn receives(&mut self, number: u32, answer: Option<Answer>) -> Result<(), NoMemory>
+    fn receives(&mut self, number: u32, answer: &Option<Answer>) -> Result<(), NoMemory>
         requires process { IsProcess self.old }
         requires raises { MayRaise (raised_at number self.old) DeadLink self.old }
-        ensures heard { OnOk result (self.new ≡ at_end number (receives_so answer) self.old) }
+        ensures heard { OnOk result (self.new ≡ at_end number (receives_so answer.now) self.old) }
         ensures process { OnOk result (IsProcess self.new) }
     {
         match answer {
@@ -157,10 +157,10 @@ impl Running {
         Ok(())
     }
 
-    fn cancelled(&mut self, number: u32, answer: Option<Answer>) -> Result<(), NoMemory>
+    fn cancelled(&mut self, number: u32, answer: &Option<Answer>) -> Result<(), NoMemory>
         requires process { IsProcess self.old }
         requires raises { MayRaise (raised_at number self.old) DeadLink self.old }
-        ensures heard { OnOk result (self.new ≡ at_end number (cancelled_so answer) self.old) }
+        ensures heard { OnOk result (self.new ≡ at_end number (cancelled_so answer.now) self.old) }
         ensures process { OnOk result (IsProcess self.new) }
     {
         match answer {
@@ -183,15 +183,15 @@ impl Running {
         Ok(())
     }
 
-    fn hear_report(&mut self, report: Report) -> Result<(), NoMemory>
+    fn hear_report(&mut self, report: &Report) -> Result<(), NoMemory>
         requires process { IsProcess self.old }
-        requires may { MayReport report self.old }
-        ensures heard { OnOk result (self.new ≡ (reported report self.old).state) }
+        requires may { MayReport report.now self.old }
+        ensures heard { OnOk result (self.new ≡ (reported report.now self.old).state) }
         ensures process { OnOk result (IsProcess self.new) }
     {
         let number = self.places.number(report.on);
         if self.places.kept(number).is_none() {
-            return self.hear_of_gone(number, &report);
+            return self.hear_of_gone(number, report);
         }
         self.hear_of_held(number, report)
     }
@@ -211,10 +211,10 @@ impl Running {
     }
 
     /// A report of an end that is held.
-    fn hear_of_held(&mut self, number: u32, report: Report) -> Result<(), NoMemory>
+    fn hear_of_held(&mut self, number: u32, report: &Report) -> Result<(), NoMemory>
         requires process { IsProcess self.old }
-        requires may { MayReportIn number (kept_at number self.old.places) report self.old }
-        ensures heard { OnOk result (self.new ≡ at_end number (hears_of report) self.old) }
+        requires may { MayReportIn number (kept_at number self.old.places) report.now self.old }
+        ensures heard { OnOk result (self.new ≡ at_end number (hears_of report.now) self.old) }
         ensures process { OnOk result (IsProcess self.new) }
     {
         match report.way {
@@ -278,24 +278,19 @@ impl Running {
     }
 
     /// A message came on an end.
-    fn hear_message(&mut self, number: u32, report: Report) -> Result<(), NoMemory>
+    fn hear_message(&mut self, number: u32, report: &Report) -> Result<(), NoMemory>
         requires process { IsProcess self.old }
-        requires may { MayListenAt number (kept_at number self.old.places) report self.old }
-        ensures heard { OnOk result (self.new ≡ at_end number (reads_of report) self.old) }
+        requires may { MayListenAt number (kept_at number self.old.places) report.now self.old }
+        ensures heard { OnOk result (self.new ≡ at_end number (reads_of report.now) self.old) }
         ensures process { OnOk result (IsProcess self.new) }
     {
         let alloc = self.alloc;
         let seen = (self.version, self.room());
-        let Report {
-            bytes,
-            enclosed,
-            ..
-        } = report;
-        let packet = self.read(bytes.as_slice())?;
+        let packet = self.read(report.bytes.as_slice())?;
         let Some(kept) = self.take(number) else {
             return Ok(());
         };
-        let (kept, heard) = listen(kept, alloc, seen, packet, enclosed)?;
+        let (kept, heard) = listen(kept, alloc, seen, packet, report.enclosed.copy())?;
         self.keep(number, kept)?;
         self.comes_of(number, heard)?;
         Ok(())

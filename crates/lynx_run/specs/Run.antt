@@ -1,6 +1,5 @@
 -- What `run` does: the plan is loaded, its programs are run on its kernels, and the text is the transcript.
 use Rattle.std.specs.Prelude.{◌≡◌, ℕ, List, Result, Ok, Err}
-use Rattle.kernel_turns.specs.Nodes.{Meaning}
 use Rattle.kernel_worker.specs.declared.standing.End.{End as RunEnd}
 use Rattle.kernel_worker.specs.declared.standing.End.TheVariants as run
 use Rattle.lynx_command.specs.Course.{Course}
@@ -10,22 +9,17 @@ use Rattle.lynx_command.specs.declared.ending.End.TheVariants.{Done, Spent}
 use Rattle.lynx_command.specs.declared.failure.Failure.TheVariants.{NoMemory}
 use Rattle.lynx_load.specs.Ends.{ends_of_each}
 use Rattle.lynx_load.specs.Loading.{Loading, Loads, Unloaded}
-use Rattle.lynx_load.specs.Roles.{last_of, state_of, version_of}
 use Rattle.lynx_load.specs.Started.{AreStarted}
 use Rattle.lynx_load.specs.declared.role.Role.{Role}
 use Rattle.plan_run.specs.Run.{IsRunOf}
 use Rattle.plan_run.specs.declared.run.Ran.{Ran}
-use Rattle.process_run.specs.Runs.{step}
-use Rattle.process_run.specs.States.{State}
+use Rattle.request_acts.specs.Claimed.{HasLinks}
+use Rattle.run_links.specs.Linked.{plan_programs, roles}
 
 -- a command is done where its run is quiet, and else a kernel's turns are used up
 abbrev pub end_of : RunEnd → End
 end_of run.Quiet = Done
 end_of (run.Spent k) = Spent
-
--- what the program of a process means
-abbrev pub roles : Meaning Role State
-roles = record { step = step; state = state_of; last = last_of; version = version_of }
 
 -- the programs of a plan were run, with so many turns for each kernel, and this is the text
 pub record IsRunOfPlan (x : Loading) (turns : ℕ) (output : OutputLines) : Type 0 where
@@ -34,6 +28,8 @@ pub record IsRunOfPlan (x : Loading) (turns : ℕ) (output : OutputLines) : Type
   pub started : AreStarted x.plan.setting.version x.codes (ends_of_each x.plan.setting) programs
   pub ran : Ran
   pub run : IsRunOf roles x.plan.setting programs turns ran
+  -- the processes have their deeds in it: on each link requests and replies are in order, and the ends that these carry are where they should be
+  pub links : HasLinks x.plan.setting (plan_programs x) run.merged run.replayed.steps run.lawful
   pub lines : output.lines ≡ ran.lines
   pub end : output.end ≡ end_of ran.end
 

@@ -8,6 +8,8 @@ ghost use Rattle.lynx_load.specs.Started.{IsLoaded, IsReady};
 ghost use Rattle.lynx_load.specs.Told.{IsToldAs};
 ghost use Rattle.lynx_outside.specs.Logged.{Put};
 ghost use Rattle.lynx_outside.specs.Sink.{WerePut};
+ghost use Rattle.request_acts.specs.Claimed.{AreWired};
+ghost use Rattle.run_links.specs.Linked.{plan_programs};
 ghost use Rattle.lynx_run.specs.Run.{FindsRun, RunsPlan, end_of};
 
 use crate::drive::Transcript;
@@ -30,8 +32,9 @@ pub struct Driver<'a, R, G> {
 
 /// Runs the plan of a file with its modules, and puts the transcript on out, one put a line. The plan is read, then each module once in the order
 /// of the processes. What the entries of the transcript show is one lawful run of the link service, and each call in them is the one that the
-/// program of its process asked. Where a file is not there or breaks a rule, the line of the first failure is put on err, with the name of
-/// that file. After a put that failed nothing more is put.
+/// program of its process asked. On each link requests are accepted at most once and in order, and each reply goes to its request, and the ends
+/// that they carry are where they should be (`links` of `IsRunOfPlan`). Where a file is not there or breaks a rule, the line of the first failure
+/// is put on err, with the name of that file. After a put that failed nothing more is put.
 pub fn run_file<R: Threads + Sync, F: Files, O: Sink, E: Sink, G: Gate + Sync>(
     driver: Driver<R, G>,
     alloc: Global,
@@ -73,7 +76,8 @@ fn run_loaded<R: Threads + Sync, G: Gate + Sync>(
 ) -> Result<Output<Transcript>, Failure>
     requires turns { driver.how.turns ≤ 100000 }
     requires ready { IsReady loaded }
-    ensures { (x : Loading) → IsLoaded x loaded → FindsRun x driver.entry.how.turns (found_of (λ t. t) result) }
+    ensures { (x : Loading) → IsLoaded x loaded → AreWired x.plan.setting (plan_programs x)
+        → FindsRun x driver.entry.how.turns (found_of (λ t. t) result) }
 {
     let Loaded { setting, programs } = loaded;
     let Ran { lines, end } = run_programs(

@@ -21,12 +21,12 @@ use plan_run::How;
 use std::alloc::Global;
 use std::thread::Threads;
 
-/// Does what the words after the program's name ask for, and gives the status with which the program ends. Words that
-/// are not of the form of a command are told so. A command that is not built yet is refused by its name. What `drive` prints is one lawful
-/// run of the link service (`Drives` in `specs/Drive.antt`, by the law `every_record_is_lawful` of `theorem`), and so is what `audit` accepts
-/// (`Audits` in `specs/Audit.antt`). What `code` prints is the listing of the code of the module (`Codes` in `specs/Code.antt`). What `run` prints
-/// is the transcript of one run of the programs of the plan (`RunsPlan` in `specs/Run.antt`). What `bench` prints is the summary of the seed
-/// (`Benches` in `specs/Bench.antt`).
+/// Does what the words after the program's name ask for, and gives the status with which the program ends. Words that are not of the form of a
+/// command are told so. A command that is not built yet is refused by its name. What `drive` prints is one lawful run of the link service
+/// (`Drives` in `specs/Drive.antt`, by the law `every_record_is_lawful` of `theorem`), and so is what `audit` accepts (`Audits` in
+/// `specs/Audit.antt`). What `code` prints is the listing of the code of the module (`Codes` in `specs/Code.antt`). What `run` prints is the
+/// transcript of one run of the programs of the plan, in which requests and replies are in order (`RunsPlan` in `specs/Run.antt`). What `bench`
+/// prints is the summary of the seed (`Benches` in `specs/Bench.antt`).
 pub fn lynx<R: Threads + Sync, F: Files, O: Sink, E: Sink, G: Gate + Sync>(
     rt: &R,
     alloc: Global,

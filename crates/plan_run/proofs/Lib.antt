@@ -1,4 +1,5 @@
 pub mod Journals
+pub mod Counting
 pub mod Places
 pub mod Programs
 pub mod Letters

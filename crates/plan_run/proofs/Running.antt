@@ -1,5 +1,5 @@
 -- Nodes that have run leave what a run of their programs is.
-use Rattle.std.proofs.Common.{◌≡◌, ℕ, ◌^◌, ◌<◌, ◌≤◌, List, [], ◌++◌, length, refl, ap, sym, ◌∙◌, arith}
+use Rattle.std.proofs.Common.{◌≡◌, ℕ, ◌*◌, ◌^◌, ◌<◌, ◌≤◌, List, [], ◌++◌, length, refl, ap, sym, ◌∙◌, arith}
 use Rattle.std.specs.List.{concat}
 use Rattle.std.proofs.lemmas.List.Elements.{All-nil}
 use Rattle.std.proofs.lemmas.Option.{slice_get_within}
@@ -9,6 +9,7 @@ use Rattle.kernel_entries.specs.declared.entry.Placed.{Placed}
 use Rattle.kernel_turns.specs.Nodes.{Meaning}
 use Rattle.kernel_turns.specs.declared.node.Node.{Node}
 use Rattle.kernel_turns.specs.declared.watch.NoWatch.{NoWatch}
+use Rattle.kernel_worker.proofs.Each.{all-at}
 use Rattle.kernel_worker.specs.Ends.{Ends}
 use Rattle.kernel_worker.specs.declared.standing.End.{End}
 use Rattle.kernel_worker.specs.declared.standing.End.TheVariants as end
@@ -19,6 +20,7 @@ use Rattle.trace_law.proofs.Run.{record_is_bare}
 use Rattle.transcript_lines.specs.Transcript.{transcript_lines}
 use Rattle.transcript_lines.specs.TranscriptText.{AreOfTranscript, HasNotesOf, IsLastInRange, IsNoteInRange}
 use Rattle.transcript_record.proofs.Laws.{record-shown}
+use Rattle.plan_run.proofs.Counting.{few-merged}
 use Rattle.plan_run.proofs.Ends.{all-replayed, ends-so}
 use Rattle.plan_run.proofs.Journals.{merged-in_range}
 use Rattle.plan_run.proofs.Letters.{letters_at, letters-left}
@@ -58,6 +60,11 @@ module _ {P S : Type 0} (m : Meaning P S) (s : Setting) (programs : List P) (tur
       no-notes end.Quiet = tt
       no-notes (end.Spent k) = refl
 
+  few-of_turns : length merged ≤ s.kernels * turns
+  few-of_turns =
+      few-merged m (λ _ _. Unit {0}) s (programs_on s programs) made ns ended.ran.nodes merged merge turns
+      (λ k n at. omega (arith, all-at (λ (n : Node P NoWatch). n.base.orders.limit ≡ turns) ns k n ended.limited at))
+
   -- the lines of the transcript of the merge of their journals are those of a run
   pub run_is : (lines : List (List ℕ)) → lines ≡ transcript_lines s merged [] (last_of e) → IsRunOf m s programs turns (record { lines = lines; end = e })
   run_is lines are =
@@ -66,6 +73,7 @@ module _ {P S : Type 0} (m : Meaning P S) (s : Setting) (programs : List P) (tur
         made = made;
         left = letters_at ns;
         one = one-of;
+        few = few-of_turns;
         lawful = ended.ran.lawful merged merge;
         bare = record_is_bare s merged ended.ran.nodes.valid;
         told = record { told = told-of; lines = ap concat are };

@@ -1,5 +1,5 @@
 -- What a run of the programs of a setting leaves: its transcript, and how it ended.
-use Rattle.std.specs.Prelude.{◌≡◌, ◌⊎◌, ℕ, ◌+◌, ◌<◌, List, [], Some, slice_get}
+use Rattle.std.specs.Prelude.{◌≡◌, ◌⊎◌, ℕ, ◌+◌, ◌*◌, ◌<◌, ◌≤◌, List, [], Some, length, slice_get}
 use Rattle.std.specs.List.{concat, sum_by}
 use Rattle.charlotte_calls.specs.declared.calls.Call.{Call}
 use Rattle.charlotte_calls.specs.declared.names.Pid.{Pid}
@@ -90,6 +90,8 @@ module _ {P S : Type 0} (m : Meaning P S) (s : Setting) (programs : List P) wher
     pub left : ℕ → ℕ → List Told
     -- the entries are those of one run of the world, which leaves these packets under way
     pub one : IsOneRun s made (λ j k. pictures (left j k)) merged
+    -- each entry used a turn of its kernel
+    pub few : length merged ≤ s.kernels * turns
     -- what they show is one lawful run of the link service, and after each of them the kernels stand for the state of the service
     pub lawful : IsLawfulRecord s merged
     -- where no packet is under way at the end, no kernel keeps a trace of a link that moved on

@@ -81,14 +81,6 @@ noted_more ps p b u a room noted is =
       idle = all_more (OnOthers a (IsIdle room)) ps p noted.idle (λ out. subst (IsIdle room) (sym is) (idle_fresh room));
     }
 
--- this is kept for it, and it is among those that are looked at
-pub noted_kept : (ps : List Place) (n : ℕ) (k : Kept) (b u a b' : BTreeSet ℕ) (room : Bool) → IsNotedFor ps b u a room
-    → is_among n u ≡ true → is_among n a ≡ true → GrowsBut n b b' → (is_among n b' ≡ false → k.bindings ≡ [])
-    → IsNotedFor (with_holding n (Keeps k) ps) b' u a room
-noted_kept ps n k b u a b' room noted iu ia gb unbound =
-    noted_changed ps n (Keeps k) b u a b' u a room noted gb (same_but n u) (same_but n a) unbound
-    (λ out. let no : true ≡ false = sym iu ∙ out in absurd cc) (λ out. let no : true ≡ false = sym ia ∙ out in absurd cc)
-
 -- ---- room
 
 -- there is room now, or none: all ends to which an entry is bound are to be looked at
@@ -191,6 +183,15 @@ not_due due.Nothing e = refl
 not_due due.Send e = let no : true ≡ false = e in absurd cc
 not_due due.Receive e = let no : true ≡ false = e in absurd cc
 not_due due.Cancel e = let no : true ≡ false = e in absurd cc
+
+-- this is kept for it, and it is among those that are looked at, where something may be due
+pub noted_kept : (ps : List Place) (n : ℕ) (k : Kept) (b u a b' : BTreeSet ℕ) (room : Bool) → IsNotedFor ps b u a room
+    → (is_some k.forbade ≡ true → is_among n u ≡ true) → (is_due (due_call room k) ≡ true → is_among n a ≡ true)
+    → GrowsBut n b b' → (is_among n b' ≡ false → k.bindings ≡ []) → IsNotedFor (with_holding n (Keeps k) ps) b' u a room
+noted_kept ps n k b u a b' room noted iu ia gb unbound =
+    noted_changed ps n (Keeps k) b u a b' u a room noted gb (same_but n u) (same_but n a) unbound
+    (λ out. calm_so room (Keeps k) (not_in (is_some k.forbade) (is_among n u) iu out))
+    (λ out. not_due (due_call room k) (not_in (is_due (due_call room k)) (is_among n a) ia out))
 
 -- no call is due on this end
 pub noted_idle : (ps : List Place) (n : ℕ) (b u a a' : BTreeSet ℕ) (room : Bool) → IsNotedFor ps b u a room → GrowsBut n a a' → is_due (due_in room (place_at n ps)) ≡ false

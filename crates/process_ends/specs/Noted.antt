@@ -55,11 +55,11 @@ pub record IsNotedFor (ps : List Place) (bound unsettled agenda : BTreeSet ℕ) 
 abbrev pub IsNoted : Board → Type 0
 IsNoted b = IsNotedFor b.roster b.bound b.unsettled b.agenda b.room
 
--- the number is in the sets, and an end to which an entry is bound also in that of such ends
-pub record IsMarked (n : ℕ) (is_bound : Bool) (b : Board) : Type 0 where
+-- the number is in each set to which it belongs: of ends to which an entry is bound, on which a request was forbidden, on which a call is due
+pub record IsMarked (n : ℕ) (is_bound has_forbidden has_call : Bool) (b : Board) : Type 0 where
   pub bound : is_bound ≡ true → is_among n b.bound ≡ true
-  pub unsettled : is_among n b.unsettled ≡ true
-  pub agenda : is_among n b.agenda ≡ true
+  pub unsettled : has_forbidden ≡ true → is_among n b.unsettled ≡ true
+  pub agenda : has_call ≡ true → is_among n b.agenda ≡ true
 
 -- the ends and the room are as before
 pub record StaysSo (b c : Board) : Type 0 where

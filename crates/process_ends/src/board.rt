@@ -1,8 +1,8 @@
 //! The ends of a process, and which of them are to be looked at.
 
-ghost use Rattle.std.specs.Prelude.{◌≡◌, ◌<◌, ◌+◌, ◌^◌, ◌++◌, ◌∷◌, [], ℕ, true, false, not, Some, IsSome, IfSome, map, option_map, length, IfOk, OnOk, OnErr};
+ghost use Rattle.std.specs.Prelude.{◌≡◌, ◌<◌, ◌+◌, ◌^◌, ◌++◌, ◌∷◌, [], ℕ, true, false, not, is_some, Some, IsSome, IfSome, map, option_map, length, IfOk, OnOk, OnErr};
 ghost use Rattle.std.specs.BTreeSet.{btree_set_len};
-ghost use Rattle.end_protocol.specs.Going.{settled};
+ghost use Rattle.end_protocol.specs.Going.{due_call, settled};
 ghost use Rattle.end_protocol.specs.Kept.{fresh};
 ghost use Rattle.end_protocol.specs.Lists.{is_nil};
 ghost use Rattle.process_run.specs.States.{Keeps, Gone};
@@ -50,22 +50,28 @@ impl Board {
         }
     }
 
-    /// The end of this number is to be looked at.
-    fn mark(&mut self, number: u32, is_bound: bool) -> Result<(), NoMemory>
+    /// The end of this number joins those to which an entry is bound, on which a request was forbidden, or on which a call is due.
+    fn mark(
+        &mut self,
+        number: u32,
+        is_bound: bool,
+        has_forbidden: bool,
+        has_call: bool,
+    ) -> Result<(), NoMemory>
         requires { IsNoted self.old }
         ensures noted { IsNoted self.new }
         ensures same { StaysSo self.old self.new }
-        ensures marked { OnOk result (IsMarked number is_bound self.new) }
+        ensures marked { OnOk result (IsMarked number is_bound has_forbidden has_call self.new) }
     {
-        add(&mut self.unsettled, number)?;
-        add(&mut self.agenda, number)?;
+        add_if(&mut self.unsettled, number, has_forbidden)?;
+        add_if(&mut self.agenda, number, has_call)?;
         add_if(&mut self.bound, number, is_bound)
     }
 
     /// This is kept for the end, which is marked.
     fn place(&mut self, number: u32, kept: Box<Kept>)
         requires noted { IsNoted self.old }
-        requires marked { IsMarked number (not (is_nil kept.value.bindings)) self.old }
+        requires marked { IsMarked number (not (is_nil kept.value.bindings)) (is_some kept.value.forbade) (is_due (due_call self.old.room kept.value)) self.old }
         ensures noted { IsNoted self.new }
         ensures room { self.new.room ≡ self.old.room }
         ensures kept { self.new.roster ≡ with_holding number (Keeps kept.value) self.old.roster }
@@ -73,6 +79,13 @@ impl Board {
         let is_bound = !kept.bindings.is_empty();
         discard_unless(&mut self.bound, number, is_bound);
         self.roster.exchange(number, Holding::Keeps(kept));
+    }
+
+    /// Whether a call is due on an end for which this is kept.
+    fn has_call(&self, kept: &Kept) -> bool
+        ensures { result ≡ is_due (due_call self.now.room kept.now) }
+    {
+        is_due(kept.due(self.room))
     }
 
     /// This is kept for the end from now on.
@@ -84,9 +97,22 @@ impl Board {
         ensures same { OnErr result (self.new.roster ≡ self.old.roster) }
     {
         let is_bound = !kept.bindings.is_empty();
-        self.mark(number, is_bound)?;
+        let has_forbidden = kept.forbade.is_some();
+        let has_call = self.has_call(&kept);
+        self.mark(number, is_bound, has_forbidden, has_call)?;
         self.place(number, kept);
         Ok(())
+    }
+
+    /// What is kept for the end is taken out, to be changed and put back. An end to which an entry is bound stays among those.
+    pub(crate) fn take(&mut self, number: u32) -> Option<Box<Kept>>
+        requires { IsNoted self.old }
+        ensures noted { IsNoted self.new }
+        ensures room { self.new.room ≡ self.old.room }
+        ensures left { self.new.roster ≡ with_holding number (Gone false) self.old.roster }
+        ensures kept { option_map (λ kept. kept.value) result ≡ kept_at number self.old.roster }
+    {
+        self.roster.exchange(number, Holding::Gone(false))
     }
 
     /// The end is held no longer. Gives what was kept for it.

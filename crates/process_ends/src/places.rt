@@ -1,6 +1,6 @@
 //! The ends of a process, by number.
 
-ghost use Rattle.std.specs.Prelude.{◌≡◌, ◌≤◌, ◌+◌, ◌++◌, ◌∷◌, [], true, cond, Some, map, sum_by, length, option_copied, option_map, OnOk, IfOk};
+ghost use Rattle.std.specs.Prelude.{◌≡◌, ◌≤◌, ◌+◌, ◌++◌, ◌∷◌, [], true, false, cond, Some, map, sum_by, length, option_copied, option_map, OnOk, IfOk};
 ghost use Rattle.std.specs.List.{list_any};
 ghost use Rattle.std.specs.Map.{lookup};
 ghost use Rattle.charlotte_calls.specs.declared.names.EndId.{EndId};
@@ -112,7 +112,15 @@ impl Places {
         }
     }
 
-    /// The end is held no longer. Gives what was kept for it, which may be changed and put back.
+    /// What is kept for the end is taken out, to be changed and put back.
+    pub fn take(&mut self, number: u32) -> Option<Box<Kept>>
+        ensures left { self.new ≡ with_places (with_holding number (Gone false) self.old.places) self.old }
+        ensures kept { option_map (λ kept. kept.value) result ≡ kept_at number self.old.places }
+    {
+        self.board.take(number)
+    }
+
+    /// The end is held no longer. Gives what was kept for it.
     pub fn let_go(&mut self, number: u32, own: bool) -> Option<Box<Kept>>
         ensures left { self.new ≡ with_places (with_holding number (Gone own) self.old.places) self.old }
         ensures kept { option_map (λ kept. kept.value) result ≡ kept_at number self.old.places }

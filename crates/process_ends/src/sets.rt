@@ -17,12 +17,12 @@ pub(crate) fn add(set: &mut BTreeSet<u32>, number: u32) -> Result<(), NoMemory>
     Ok(())
 }
 
-/// The number is in the set from now on, if an entry is bound to its end.
-pub(crate) fn add_if(set: &mut BTreeSet<u32>, number: u32, is_bound: bool) -> Result<(), NoMemory>
+/// The number is in the set from now on, if it is to join it.
+pub(crate) fn add_if(set: &mut BTreeSet<u32>, number: u32, joins: bool) -> Result<(), NoMemory>
     ensures grows { Grows set.old set.new }
-    ensures added { OnOk result (is_bound ≡ true → is_among number set.new ≡ true) }
+    ensures added { OnOk result (joins ≡ true → is_among number set.new ≡ true) }
 {
-    if !is_bound {
+    if !joins {
         return Ok(());
     }
     add(set, number)

@@ -70,26 +70,39 @@ impl Links {
     }
 
     /// Does a call of a process. Its answer, or none where it has to wait for a report.
-    pub(crate) fn call(&mut self, process: u8, call: &Call) -> Result<Option<Answer>, NoMemory> {
+    pub(crate) fn call(
+        &mut self,
+        process: u8,
+        call: &Call,
+        out: &mut Option<Answer>,
+    ) -> Result<(), NoMemory> {
         match call {
             Call::Make => {
                 let (a, b) = self.make(process, process)?;
-                Ok(Some(Answer::Made(a, b)))
+                *out = Some(Answer::Made(a, b));
             }
-            Call::Destroy { on } => self.destroy(*on),
-            Call::Send { on, bytes, enclose } => self.send(*on, bytes, enclose),
-            Call::Receive { on } => self.receive(*on),
-            Call::Cancel { on, .. } => Ok(Some(self.cancel(*on))),
-            Call::Wait => Ok(self.next_report(process)),
-            Call::Print { .. } => Ok(Some(Answer::Ok)),
-            Call::Exit => self.exit(process),
+            Call::Destroy { on } => {
+                self.destroy(*on)?;
+                *out = Some(Answer::Ok);
+            }
+            Call::Send { on, bytes, enclose } => {
+                *out = Some(plain(self.send(*on, bytes, enclose)?));
+            }
+            Call::Receive { on } => *out = Some(plain(self.receive(*on)?)),
+            Call::Cancel { on, .. } => *out = Some(plain(self.cancel(*on))),
+            Call::Wait => self.next_report(process, out),
+            Call::Print { .. } => *out = Some(Answer::Ok),
+            Call::Exit => {
+                self.exit(process)?;
+                *out = Some(Answer::Ok);
+            }
         }
+        Ok(())
     }
 
-    fn next_report(&mut self, process: u8) -> Option<Answer> {
-        match self.reports(process).pop_front() {
-            Some(report) => Some(Answer::Reported(report)),
-            None => None,
+    fn next_report(&mut self, process: u8, out: &mut Option<Answer>) {
+        if let Some(report) = self.reports(process).pop_front() {
+            *out = Some(Answer::Reported(report));
         }
     }
 
@@ -105,53 +118,54 @@ impl Links {
         self.halves.get_mut(place_of(on))
     }
 
+    /// None where the call was done, else why it was refused.
     fn send(
         &mut self,
         on: EndId,
         bytes: &Bytes,
         enclosed: &Ends,
-    ) -> Result<Option<Answer>, NoMemory> {
+    ) -> Result<Option<Cause>, NoMemory> {
         let alloc = self.alloc;
+        let Some(half) = self.half(on) else {
+            return Ok(Some(Cause::NoEnd));
+        };
+        if half.is_dead {
+            return Ok(Some(Cause::Dead));
+        }
         let message = Message {
             bytes: bytes.copy(),
             enclosed: enclosed.copy(),
         };
-        let Some(half) = self.half(on) else {
-            return Ok(Some(Answer::Refused(Cause::NoEnd)));
-        };
-        if half.is_dead {
-            return Ok(Some(Answer::Refused(Cause::Dead)));
-        }
         half.sent = Some(Box::new(alloc, message)?);
         self.deliver(on)?;
-        Ok(Some(Answer::Ok))
+        Ok(None)
     }
 
-    fn receive(&mut self, on: EndId) -> Result<Option<Answer>, NoMemory> {
+    fn receive(&mut self, on: EndId) -> Result<Option<Cause>, NoMemory> {
         let Some(half) = self.half(on) else {
-            return Ok(Some(Answer::Refused(Cause::NoEnd)));
+            return Ok(Some(Cause::NoEnd));
         };
         if half.is_dead {
-            return Ok(Some(Answer::Refused(Cause::Dead)));
+            return Ok(Some(Cause::Dead));
         }
         half.receives = true;
         self.deliver(on.opposite())?;
-        Ok(Some(Answer::Ok))
+        Ok(None)
     }
 
     /// Takes a receive back.
-    fn cancel(&mut self, on: EndId) -> Answer {
+    fn cancel(&mut self, on: EndId) -> Option<Cause> {
         let Some(half) = self.half(on) else {
-            return Answer::Refused(Cause::NoEnd);
+            return Some(Cause::NoEnd);
         };
         if half.is_dead {
-            return Answer::Refused(Cause::Dead);
+            return Some(Cause::Dead);
         }
         if !half.receives {
-            return Answer::Refused(Cause::Late);
+            return Some(Cause::Late);
         }
         half.receives = false;
-        Answer::Ok
+        None
     }
 
     /// What was sent on an end is received at its opposite, where both are started.
@@ -192,10 +206,10 @@ impl Links {
         }
     }
 
-    fn destroy(&mut self, on: EndId) -> Result<Option<Answer>, NoMemory> {
+    fn destroy(&mut self, on: EndId) -> Result<(), NoMemory> {
         self.die(on)?;
         self.die(on.opposite())?;
-        Ok(Some(Answer::Ok))
+        Ok(())
     }
 
     /// What is started on an end is over, since its link is dead.
@@ -220,7 +234,7 @@ impl Links {
     }
 
     /// Destroys all links of which a process owns an end.
-    fn exit(&mut self, process: u8) -> Result<Option<Answer>, NoMemory> {
+    fn exit(&mut self, process: u8) -> Result<(), NoMemory> {
         for count in 0..self.count {
             let link = LinkId { maker: 0, count };
             for side in [Side::A, Side::B] {
@@ -230,7 +244,7 @@ impl Links {
                 }
             }
         }
-        Ok(Some(Answer::Ok))
+        Ok(())
     }
 
     /// Whether a process owns an end whose link is not destroyed.
@@ -239,6 +253,14 @@ impl Links {
             Some(half) => half.owner == process && !half.is_dead,
             None => false,
         }
+    }
+}
+
+/// The answer to a call that was done, or refused for this cause.
+fn plain(refused: Option<Cause>) -> Answer {
+    match refused {
+        None => Answer::Ok,
+        Some(cause) => Answer::Refused(cause),
     }
 }
 

@@ -1,11 +1,12 @@
 //! Two processes that talk: each goes on until it waits for a report, or pauses.
-ghost use Rattle.std.specs.Prelude.{◌≡◌, ◌⊎◌, IfOk, OnOk, length};
+ghost use Rattle.std.specs.Prelude.{◌≡◌, ◌⊎◌, true, None, IfOk, OnOk, length};
+ghost use Rattle.charlotte_calls.specs.Program.{MayFollow};
 
 use crate::links::Links;
 use crate::modules::code_of;
 use crate::sums::Sum;
 use crate::trouble::Trouble;
-use charlotte_calls::{EndId, Next, Program};
+use charlotte_calls::{Answer, EndId, Next, Program};
 use lynx_rt::LynxProcess;
 use std::alloc::Global;
 
@@ -97,24 +98,42 @@ impl Seat {
         requires { self.old.program.last ≡ self.old.last }
         ensures { OnOk result (self.new.program.last ≡ self.new.last) }
     {
-        let answer = match &self.last {
-            None | Some(Next::Pause) => None,
-            Some(Next::Ended) => return Ok(Went::Stays),
-            Some(Next::Ask(call)) => match links.call(self.process, call)? {
-                None => return Ok(Went::Stays),
-                Some(answer) if call.fits(&answer) => Some(answer),
-                Some(_) => return Err(Trouble::Answer),
-            },
-        };
-        let next = self.program.next(alloc, answer)?;
-        sum.add(&next);
-        let went = if matches!(next, Next::Pause) {
-            Went::Paused
-        } else {
-            Went::On
-        };
-        self.last = Some(next);
-        Ok(went)
+        let mut answer = None;
+        if !self.answer(links, &mut answer)? {
+            return Ok(Went::Stays);
+        }
+        match self.program.next(alloc, answer) {
+            Ok(next) => {
+                sum.add(&next);
+                let went = if matches!(next, Next::Pause) {
+                    Went::Paused
+                } else {
+                    Went::On
+                };
+                self.last = Some(next);
+                Ok(went)
+            }
+            Err(_) => Err(Trouble::NoMemory),
+        }
+    }
+
+    /// The answer to its call, if it asked one. Tells whether it may make a step.
+    fn answer(&self, links: &mut Links, out: &mut Option<Answer>) -> Result<bool, Trouble>
+        requires { out.old ≡ None }
+        ensures { IfOk result (λ goes. goes ≡ true → MayFollow self.now.last out.new) }
+    {
+        match &self.last {
+            None | Some(Next::Pause) => Ok(true),
+            Some(Next::Ended) => Ok(false),
+            Some(Next::Ask(call)) => {
+                links.call(self.process, call, out)?;
+                match &*out {
+                    None => Ok(false),
+                    Some(answer) if call.fits(answer) => Ok(true),
+                    Some(_) => Err(Trouble::Answer),
+                }
+            }
+        }
     }
 }
 

@@ -33,7 +33,7 @@ pub record AreLinked (s : Setting) (programs : ℕ → Program) (merged : List P
   pub in_order : AreInOrder (deeds_of s programs merged steps acted)
   pub carried : AreCarried (states_of s merged lawful) (length merged) (deeds_of s programs merged steps acted)
 
--- It is so in each replay of all processes over the entries of a run. This is not proved yet
+-- It is so in each replay of all processes over the entries of a run
 abbrev pub ActsAreLinked : Type 0
 ActsAreLinked =
     (s : Setting) (programs : ℕ → Program) (merged : List Placed) (steps : ℕ → ℕ) (lawful : IsLawfulRecord s merged)

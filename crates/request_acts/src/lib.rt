@@ -8,7 +8,7 @@
 //! (`deeds_are_determined`). `AreReplayed`, `AreActed`, `deeds_of` and `IsRunBy` in `specs/Acted.antt`.
 //!
 //! That the deeds are as `language_links` claims is `ActsAreLinked` in `specs/Claimed.antt`: `followed_links` proves it of requests and replies, and
-//! `carried_ends` of the ends that they carry, but for one case.
+//! `carried_ends` of the ends that they carry, and so of each run.
 #![tactic(auto)]
 
 mod law;

@@ -2,4 +2,5 @@ pub mod Wired
 pub mod Checked
 pub mod Loaded
 pub mod Starting
-pub mod Ordered
+pub mod Linked
+pub mod Plans

@@ -3,6 +3,7 @@ use Rattle.std.proofs.Common.{arith, ◌≡◌, ◌≤◌, inl, inr, ℕ, List, 
 use Rattle.std.specs.Prelude.{IfOk, codes as text_codes}
 use Rattle.std.specs.List.{AllByRecursion}
 use Rattle.std.proofs.lemmas.List.Elements.{All-head, All-tail}
+use Rattle.charlotte_calls.specs.Setting.{IsValid}
 use Rattle.compiler_runnable.specs.Runnable.{IsRunnable}
 use Rattle.lynx_code.specs.declared.code.Code.{Code}
 use Rattle.lynx_command.specs.Failures.{failure_of_file}
@@ -16,7 +17,7 @@ use Rattle.lynx_outside.specs.declared.files.FileAnswer.{FileAnswer}
 use Rattle.plan_text.specs.Reading.{plan_of}
 use Rattle.plan_text.specs.declared.plan.Hosting.{Hosting}
 use Rattle.plan_text.specs.declared.plan.Plan.{Plan}
-use Rattle.plan_text.proofs.Found.{plan_spelled}
+use Rattle.plan_text.proofs.Found.{plan_spelled, plan_valid}
 use Rattle.plan_text.proofs.Hostless.{files_and_lines}
 use Rattle.lynx_load.specs.Ends.{ends_of_each}
 use Rattle.lynx_load.specs.Loading.{FitsEnds, GoesOn, IsModule, IsPlan, LoadCodes, Loading, Loads, LoadsHosted, LoadsPlan, Unloaded, fitted_at, onto_codes, unfit_line}
@@ -54,10 +55,11 @@ all_runnable (file ∷ files) reads made h within =
 
 -- ---- the plan
 
--- the code of each module can be run, and its process has an end for each param
+-- the code of each module can be run, its process has an end for each param, and the setting is valid
 pub record IsSound (x : Loading) : Type 0 where
   pub runnable : AllByRecursion IsRunnable x.codes
   pub fit : AreFit x.codes (ends_of_each x.plan.setting)
+  pub valid : IsValid x.plan.setting
 
 no_line : (name : List ℕ) (y x : Loading) (line : Option ℕ) → Ok x ≡ fitted_at name y line → (y ≡ x) × (line ≡ None)
 no_line name y x None is = (same_ok y x (Ok x) is refl, refl)
@@ -73,6 +75,7 @@ module _ (name : List ℕ) (x : Loading) where
         record {
           runnable = all_runnable plan.files reads made loads within;
           fit = all_fit made (ends_of_each plan.setting) plan.lines (as_files ∙ many.0 ∙ sym ends) (many.1 ∙ sym ends) fits;
+          valid = plan_valid bytes (Ok plan) is;
         }
 
     compiled : (made : Result (List Code) Unloaded) → LoadCodes plan.files reads made → FitsEnds name plan made (Ok x) → IsSound x

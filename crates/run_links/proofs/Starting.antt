@@ -2,7 +2,6 @@
 use Rattle.std.proofs.Common.{arith, ◌≡◌, ◌⊎◌, ℕ, zero, suc, ◌+◌, ◌<◌, List, [], ◌∷◌, length, refl, sym, ap, subst, ◌∙◌}
 use Rattle.std.specs.List.{AllByRecursion, IsDistinct}
 use Rattle.charlotte_calls.specs.EndEq.{end_eq}
-use Rattle.charlotte_calls.specs.Setting.{IsValid}
 use Rattle.charlotte_calls.specs.declared.names.EndId.{EndId}
 use Rattle.charlotte_calls.specs.declared.setting.Setting.{Setting}
 use Rattle.compiler_runnable.specs.Runnable.{IsRunnable}
@@ -20,7 +19,7 @@ use Rattle.service_step.specs.Run.{start_state}
 use Rattle.service_step.specs.declared.state.Place.TheVariants.{Owned}
 use Rattle.run_links.proofs.Loaded.{IsSound}
 use Rattle.run_links.proofs.Wired.{apart_at_start, ends_few, own_at_start}
-use Rattle.run_links.specs.Ordered.{plan_programs}
+use Rattle.run_links.specs.Linked.{plan_programs}
 
 -- a process's ends are those of its number
 ends_at : (s : Setting) (codes : List Code) (p : ℕ) (homes : List ℕ) → length codes ≡ length homes → (i : ℕ) → i < length homes → (programs_of codes (ends_from s p homes) i).ends ≡ ends_of s (p + i)
@@ -42,7 +41,7 @@ running_at version of (code ∷ codes) [] runnable fit i below = absurd fit
 running_at version of (code ∷ codes) (ends ∷ each) runnable fit zero below = start_running version code ends of runnable.0 fit.0
 running_at version of (code ∷ codes) (ends ∷ each) runnable fit (suc i) below = running_at version of codes each runnable.1 fit.1 i (omega (arith, below))
 
-module _ (x : Loading) (sound : IsSound x) (valid : IsValid x.plan.setting) where
+module _ (x : Loading) (sound : IsSound x) where
   abbrev s : Setting
   s = x.plan.setting
 
@@ -54,8 +53,8 @@ module _ (x : Loading) (sound : IsSound x) (valid : IsValid x.plan.setting) wher
 
   pub plan_wired : AreWired s (plan_programs x)
   plan_wired = record {
-    own = λ i within. subst (λ (xs : List EndId). AllByRecursion (λ (y : EndId). ((start_state s).ends y).place ≡ Owned (process i)) xs) (sym (own_ends i within)) (own_at_start s valid i);
-    apart = λ i within. subst (λ (xs : List EndId). IsDistinct end_eq xs) (sym (own_ends i within)) (apart_at_start s valid i);
-    few = λ i within. let most = ends_few s i in omega (arith, most, valid.limits.wires, ap length (own_ends i within));
-    sound = λ i within. running_at s.version valid.limits.version x.codes (ends_of_each s) sound.runnable sound.fit i (omega (arith, within, many));
+    own = λ i within. subst (λ (xs : List EndId). AllByRecursion (λ (y : EndId). ((start_state s).ends y).place ≡ Owned (process i)) xs) (sym (own_ends i within)) (own_at_start s sound.valid i);
+    apart = λ i within. subst (λ (xs : List EndId). IsDistinct end_eq xs) (sym (own_ends i within)) (apart_at_start s sound.valid i);
+    few = λ i within. let most = ends_few s i in omega (arith, most, sound.valid.limits.wires, ap length (own_ends i within));
+    sound = λ i within. running_at s.version sound.valid.limits.version x.codes (ends_of_each s) sound.runnable sound.fit i (omega (arith, within, many));
   }

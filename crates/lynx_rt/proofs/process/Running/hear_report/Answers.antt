@@ -12,7 +12,7 @@ pub returns-clause-heard : goal.returns-clause-heard
 returns-clause-heard c =
     let n = c.number-number.result in
     on_ok_weaker c.hear_of_held.result
-    (λ (e : c.hear_of_held.new.self ≡ at_end n (hears_of c.args.report) c.args.self.now).
-    heard_there c.kept.result n c.args.report c.args.self.now _ (c.kept.ensures ∙ ap (λ (s : State). kept_at n s.places) c.self.view_is) c.if-is_none.ensures
-    (c.number-number.ensures ∙ ap (λ (s : State). number_of c.args.report.on s.places) c.self.view_is) e)
+    (λ (e : c.hear_of_held.new.self ≡ at_end n (hears_of c.args.report.now) c.args.self.now).
+    heard_there c.kept.result n c.args.report.now c.args.self.now _ (c.kept.ensures ∙ ap (λ (s : State). kept_at n s.places) c.self.view_is) c.if-is_none.ensures
+    (c.number-number.ensures ∙ ap (λ (s : State). number_of c.args.report.now.on s.places) c.self.view_is) e)
     c.hear_of_held.ensures.heard

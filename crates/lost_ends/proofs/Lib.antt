@@ -1,0 +1,9 @@
+pub mod Hasty
+pub mod Counting
+pub mod AtEnds
+pub mod Ledgers
+pub mod ProcessSteps
+pub mod Sides
+pub mod ServiceSteps
+pub mod CallSteps
+pub mod Along

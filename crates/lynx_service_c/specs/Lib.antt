@@ -1,0 +1,3 @@
+pub mod Holder
+pub mod Memory
+pub mod Service

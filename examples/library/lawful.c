@@ -1,0 +1,16 @@
+// Whether the history on standard input is lawful: cc -I service lawful.c service/liblynx_service.a, of `lynx library service`.
+#include <stdio.h>
+#include <string.h>
+
+#include "lynx_service.h"
+
+int main(void) {
+    char line[4096];
+    lynx_service *service;
+    int status = lynx_service_new(&service);
+    while (fgets(line, sizeof line, stdin))
+        if (status == LYNX_SERVICE_OK)
+            status = lynx_service_line(service, line, strcspn(line, "\n"));
+    lynx_service_free(service);
+    return status;
+}
