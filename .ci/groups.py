@@ -2,7 +2,8 @@
 """The groups of crates, by the headings of crates.txt: which group stands on which.
 
 .ci/groups.py          tells each group with its crates and what it stands on, and ends with a failure where docs/groups.svg is another drawing
-                       than that of crates.txt, where a crate stands below no heading, where a heading is no group, or where groups have a cycle
+                       than that of crates.txt, where a crate stands below no heading, where a heading is no group, where groups have a cycle,
+                       or where crates.txt has too many paths
 .ci/groups.py --write  draws docs/groups.svg
 """
 
@@ -15,6 +16,8 @@ DRAWING = TOP / "docs/groups.svg"
 # From left to right, where a group stands; its height follows from what it stands on.
 PLACES = {"words": 1.0, "kernel": 0.5, "service": 1.5, "texts": 0.5, "theorem": 1.0, "audit": 1.0, "histories": 1.8, "language": 2.5,
           "compiler": 2.5, "machine": 3.5, "requests": 3.5, "program": 1.75, "workers": 2.5, "tests": 2.6}
+# rt walks each path down from each crate some fifty times before its first proof: at this number for about five minutes.
+PATHS = 8_000_000
 COLUMN, LEVEL, WIDTH, HEIGHT, MARGIN = 180, 84, 130, 46, 24
 STYLE = 'font-family="sans-serif" text-anchor="middle"'
 
@@ -61,6 +64,20 @@ def without_implied(below):
             for group, others in below.items()}
 
 
+def paths_down(needs):
+    """Each crate with the number of paths that go down from it, the empty one among them."""
+    found = {}
+
+    def count(crate):
+        if crate not in found:
+            found[crate] = 1 + sum(count(other) for other in needs[crate] if other in needs)
+        return found[crate]
+
+    for crate in needs:
+        count(crate)
+    return found
+
+
 def drawing_of(group_of, needs):
     below = groups_below(group_of, needs)
     direct = without_implied(below)
@@ -99,6 +116,9 @@ def main():
             drawing = drawing_of(group_of, needs)
         except ValueError as error:
             wrong.append(str(error))
+        paths = sum(paths_down(needs).values())
+        if paths > PATHS:
+            wrong.append(f"{paths} paths, more than {PATHS}: what a crate cites of one far below let a crate between pass on (`pub use` in Lib.antt)")
     if wrong:
         sys.exit("\n".join(f"crates.txt: {what}" for what in wrong))
     if "--write" in sys.argv[1:]:

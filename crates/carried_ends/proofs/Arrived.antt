@@ -11,8 +11,8 @@ use Rattle.service_step.specs.Steps.{IsServiceStep}
 use Rattle.service_step.specs.declared.state.Phase.TheVariants as phase
 use Rattle.service_step.specs.declared.state.Place.TheVariants as place
 use Rattle.service_streams.specs.Streams.{cancels_send, steps_in}
-use Rattle.service_custody.specs.Moves.{Moves}
-use Rattle.entry_steps.specs.Entries.{IsUncalled}
+use Rattle.lost_ends.specs.Moves.{Moves}
+use Rattle.lost_ends.specs.Entries.{IsUncalled}
 use Rattle.end_protocol.specs.declared.hearing.Heard.{Heard}
 use Rattle.end_protocol.specs.declared.hearing.Heard.TheVariants as heard
 use Rattle.end_protocol.specs.declared.kept.Kept.{Kept}
@@ -21,27 +21,27 @@ use Rattle.end_protocol.specs.Deeds.{Replied, heard_deeds}
 use Rattle.end_protocol.specs.Going.{receive_over}
 use Rattle.end_protocol.specs.Happenings.{Happening, Accepts, Binds, CancelLate, Connects, Dies, Hears, ReceiveOver, Receives, Replies, SendOver, Sends, Settles, Unbinds, deeds_of}
 use Rattle.end_protocol.specs.Hearing.{hears}
-use Rattle.process_run.specs.States.{DeedOn, State, deeds_on}
-use Rattle.process_run.specs.States as asked
-use Rattle.process_run.specs.Runs.{did}
-use Rattle.process_sound.specs.Told.{IsTold}
-use Rattle.process_sound.proofs.Every.{every_append, every_weaker}
-use Rattle.process_changes.specs.AtEnd.{seen}
-use Rattle.process_changes.specs.Changes.{Change, Changes, MayDo, None as NoChanges, Then}
-use Rattle.process_changes.specs.Changes as changes
-use Rattle.process_changes.specs.Ledgers.{Ledger, came_with, how_often}
-use Rattle.process_changes.specs.Telling.{ChangesByStep, Telling, Turn}
-use Rattle.process_changes.specs.Telling as tells
-use Rattle.process_changes.proofs.AtEnd.{once, once_self}
-use Rattle.process_changes.proofs.Steps.{step_changes}
-use Rattle.process_changes.proofs.ToldAt.{told_at}
-use Rattle.language_links.specs.Claims.{gets}
-use Rattle.request_acts.specs.Acted.{process}
-use Rattle.run_invariant.specs.Invariant.{IsOwner}
-use Rattle.run_invariant.specs.Owners.{Asks, IsAskedFor, Over, Owner, Pends, Runs, Status, Told, given_of, ledger_of, phase_of, seen_of, turn_of}
-use Rattle.run_invariant.specs.Steps.{MayStep}
-use Rattle.followed_links.proofs.Passing.{IsOwnStep, passes-by, uncalled-cancels, uncalled-own}
-use Rattle.followed_links.proofs.Weaving.{Comes, Goes, Passes, Stays, same-owner}
+use Rattle.lost_ends.specs.States.{DeedOn, State, deeds_on}
+use Rattle.lost_ends.specs.States as asked
+use Rattle.lost_ends.specs.Runs.{did}
+use Rattle.lost_ends.specs.ProcessSoundTold.{IsTold}
+use Rattle.lost_ends.proofs.Every.{every_append, every_weaker}
+use Rattle.lost_ends.specs.AtEnd.{seen}
+use Rattle.lost_ends.specs.Changes.{Change, Changes, MayDo, None as NoChanges, Then}
+use Rattle.lost_ends.specs.Changes as changes
+use Rattle.lost_ends.specs.Ledgers.{Ledger, came_with, how_often}
+use Rattle.lost_ends.specs.Telling.{ChangesByStep, Telling, Turn}
+use Rattle.lost_ends.specs.Telling as tells
+use Rattle.lost_ends.proofs.AtEnd.{once, once_self}
+use Rattle.lost_ends.proofs.Steps.{step_changes}
+use Rattle.lost_ends.proofs.ToldAt.{told_at}
+use Rattle.lost_ends.specs.Claims.{gets}
+use Rattle.lost_ends.specs.Acted.{process}
+use Rattle.lost_ends.specs.Invariant.{IsOwner}
+use Rattle.lost_ends.specs.Owners.{Asks, IsAskedFor, Over, Owner, Pends, Runs, Status, Told, given_of, ledger_of, phase_of, seen_of, turn_of}
+use Rattle.lost_ends.specs.Steps.{MayStep}
+use Rattle.lost_ends.proofs.Passing.{IsOwnStep, passes-by, uncalled-cancels, uncalled-own}
+use Rattle.lost_ends.proofs.Weaving.{Comes, Goes, Passes, Stays, same-owner}
 
 -- the process of this number owns the end
 abbrev pub IsOwnOf : Service → ℕ → EndId → Type 0

@@ -16,30 +16,30 @@ use Rattle.service_step.specs.State.{State as Service}
 use Rattle.service_step.specs.Steps.{IsServiceStep}
 use Rattle.service_streams.specs.Streams.{steps_in}
 use Rattle.service_step.specs.declared.state.Place.TheVariants as place
-use Rattle.told_answers.specs.Told.{call_of, own_told}
-use Rattle.program_runs.specs.Replay.{IsGiven}
-use Rattle.entry_steps.specs.Entries.{AreEntries, IsEntry, IsUncalled}
+use Rattle.lost_ends.specs.Told.{call_of, own_told}
+use Rattle.lost_ends.specs.Replay.{IsGiven}
+use Rattle.lost_ends.specs.Entries.{AreEntries, IsEntry, IsUncalled}
 use Rattle.end_protocol.specs.Deeds.{Deed}
-use Rattle.process_run.specs.States.{DeedOn}
-use Rattle.process_run.specs.Runs.{did}
-use Rattle.process_changes.specs.AtEnd.{deeds_at}
-use Rattle.process_sound.proofs.Every.{every_append, every_weaker}
-use Rattle.language_links.specs.Acting.{Acting, Acts, Calls, Done, Fleet, IsAsking, IsPausing, Pauses, Rests, Takes, at_end, deeds_before, done_by, hears_entry, paused, with_acting}
-use Rattle.language_links.specs.Claims.{AreWith, IsWith, States, gets}
-use Rattle.request_acts.specs.Acted.{home_of, process}
-use Rattle.request_acts.proofs.Fleets.{asked_by, set-self}
-use Rattle.run_invariant.specs.Hearing.{owner_told, owners, with_owner}
-use Rattle.run_invariant.specs.Invariant.{Owners, Stands}
-use Rattle.run_invariant.specs.Owners.{Asks, owner_of}
+use Rattle.lost_ends.specs.States.{DeedOn}
+use Rattle.lost_ends.specs.Runs.{did}
+use Rattle.lost_ends.specs.AtEnd.{deeds_at}
+use Rattle.lost_ends.proofs.Every.{every_append, every_weaker}
+use Rattle.lost_ends.specs.Acting.{Acting, Acts, Calls, Done, Fleet, IsAsking, IsPausing, Pauses, Rests, Takes, at_end, deeds_before, done_by, hears_entry, paused, with_acting}
+use Rattle.lost_ends.specs.Claims.{AreWith, IsWith, States, gets}
+use Rattle.lost_ends.specs.Acted.{home_of, process}
+use Rattle.lost_ends.proofs.Fleets.{asked_by, set-self}
+use Rattle.lost_ends.specs.Hearing.{owner_told, owners, with_owner}
+use Rattle.lost_ends.specs.Invariant.{Owners, Stands}
+use Rattle.lost_ends.specs.Owners.{Asks, owner_of}
 use Rattle.lost_ends.specs.Stopped.{AreFollowedSo}
 use Rattle.carried_ends.proofs.Arrived.{AreGot, IsOwnOf, got-step, got-uncalled, step-got}
 use Rattle.lost_ends.proofs.Along.{asked-so, called-so, paused-so, taken-so}
 use Rattle.carried_ends.proofs.UnderWayIssuers.{AreIssued, issued-before, issued-on, issued-step, issued-uncalled, left-closed}
-use Rattle.followed_links.proofs.Calling.{Begins, IsPrint, below-or-above, room-of, steps-begin}
-use Rattle.followed_links.proofs.Entries.{StepsKeep, more-entries}
-use Rattle.followed_links.proofs.Following.{IsFollowing, ProcessesKeep, ServiceMoves, calls-deeds, calls-follow, cancels-none, call-step, asked, below, bytes, mine, of-entry, own-first, pauses-deeds, pauses-follow, quiet, since-later, since-same, since_of, steps-grow, taken-uncalled, takes-deeds, takes-follow, woven-first}
-use Rattle.followed_links.proofs.Told.{given-is}
-use Rattle.followed_links.proofs.Weaving.{AreWoven, flushing, weaves-call}
+use Rattle.lost_ends.proofs.Calling.{Begins, IsPrint, below-or-above, room-of, steps-begin}
+use Rattle.lost_ends.proofs.FollowedLinksEntries.{StepsKeep, more-entries}
+use Rattle.lost_ends.proofs.Following.{IsFollowing, ProcessesKeep, ServiceMoves, calls-deeds, calls-follow, cancels-none, call-step, asked, below, bytes, mine, of-entry, own-first, pauses-deeds, pauses-follow, quiet, since-later, since-same, since_of, steps-grow, taken-uncalled, takes-deeds, takes-follow, woven-first}
+use Rattle.lost_ends.proofs.Told.{given-is}
+use Rattle.lost_ends.proofs.Weaving.{AreWoven, flushing, weaves-call}
 
 -- so it stands after so many entries, with these deeds of the run
 pub record IsSnap (version count : ℕ) (s : Service) (n : ℕ) (past : List Done) : Type 0 where

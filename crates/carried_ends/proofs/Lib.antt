@@ -6,3 +6,4 @@ pub mod ArrivedAlong
 pub mod UnderWayRun
 pub mod UnderWayCarried
 pub mod Whole
+pub use Rattle.lost_ends.proofs.Given

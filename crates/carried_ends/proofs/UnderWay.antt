@@ -12,19 +12,19 @@ use Rattle.service_step.specs.declared.state.Message.{Message as Told}
 use Rattle.service_step.specs.declared.state.Place.{Place}
 use Rattle.service_step.specs.declared.state.Place.TheVariants as place
 use Rattle.service_streams.specs.Streams.{messages, numbered, told_in}
-use Rattle.service_custody.specs.Coming.{coming, on_way, reported_to}
-use Rattle.service_custody.specs.Moves.{brings, enclosed_in}
+use Rattle.lost_ends.specs.Coming.{coming, on_way, reported_to}
+use Rattle.lost_ends.specs.Moves.{brings, enclosed_in}
 use Rattle.end_protocol.specs.declared.kept.Kept.{Kept}
 use Rattle.end_protocol.specs.declared.messages.Message.{Message}
 use Rattle.end_protocol.specs.Kept.{fresh}
-use Rattle.process_run.specs.States.{Gone, Holding, Keeps}
-use Rattle.process_changes.specs.Ledgers.{brought, carried, how_often}
-use Rattle.process_changes.proofs.Counting.{both}
-use Rattle.process_changes.proofs.Numbers.{same_end}
+use Rattle.lost_ends.specs.States.{Gone, Holding, Keeps}
+use Rattle.lost_ends.specs.Ledgers.{brought, carried, how_often}
+use Rattle.lost_ends.proofs.ProcessChangesCounting.{both}
+use Rattle.lost_ends.proofs.Numbers.{same_end}
 use Rattle.request_law.specs.Law.{ends_in}
-use Rattle.request_runs.specs.Sides.{Destroyed, Free, Held, IsComing, IsKept, Lost, Side, Standing}
-use Rattle.run_invariant.specs.Invariant.{AreOwners, AreSpelled, IsOwned, IsSide, IsSideAt, IsStandingIn, Owners, told_to}
-use Rattle.run_invariant.specs.Owners.{given_of, seen_of}
+use Rattle.lost_ends.specs.Sides.{Destroyed, Free, Held, IsComing, IsKept, Lost, Side, Standing}
+use Rattle.lost_ends.specs.Invariant.{AreOwners, AreSpelled, IsOwned, IsSide, IsSideAt, IsStandingIn, Owners, told_to}
+use Rattle.lost_ends.specs.Owners.{given_of, seen_of}
 use Rattle.lost_ends.proofs.Counting.{ends-of-both, held-out, owner-alive, same-count, some-or-none, spelled-ends, told-in-few, told-to-few}
 use Rattle.lost_ends.specs.Stopped.{ends_of}
 

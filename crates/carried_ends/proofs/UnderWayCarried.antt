@@ -5,26 +5,26 @@ use Rattle.charlotte_calls.specs.declared.calls.ServiceStep.{ServiceStep}
 use Rattle.charlotte_calls.specs.declared.setting.Setting.{Setting}
 use Rattle.charlotte_calls.specs.declared.names.EndId.{EndId}
 use Rattle.end_protocol.specs.Deeds.{Deed}
-use Rattle.run_invariant.specs.Hearing.{owners}
+use Rattle.lost_ends.specs.Hearing.{owners}
 use Rattle.kernel_entries.specs.Ranges.{IsPlacedInRange}
 use Rattle.kernel_entries.specs.declared.entry.Placed.{Placed}
 use Rattle.service_lawful.proofs.History.{state_after-append}
 use Rattle.service_step.specs.Run.{start_state, state_after}
 use Rattle.service_step.specs.State.{State as Service}
-use Rattle.theorem.specs.Law.{joined}
-use Rattle.theorem.specs.Record.{IsLawfulRecord}
-use Rattle.entry_steps.proofs.Entries.{entries-have_steps}
-use Rattle.language_links.specs.Acting.{Done, Program, at_start}
-use Rattle.language_links.specs.Claims.{AreCarried, States}
-use Rattle.request_acts.specs.Acted.{AreActed, deeds_of}
-use Rattle.request_acts.specs.Claimed.{states_of}
+use Rattle.lost_ends.specs.Law.{joined}
+use Rattle.lost_ends.specs.Record.{IsLawfulRecord}
+use Rattle.lost_ends.proofs.Entries.{entries-have_steps}
+use Rattle.lost_ends.specs.Acting.{Done, Program, at_start}
+use Rattle.lost_ends.specs.Claims.{AreCarried, States}
+use Rattle.lost_ends.specs.Acted.{AreActed, deeds_of}
+use Rattle.lost_ends.specs.Claimed.{states_of}
 use Rattle.lost_ends.specs.Stopped.{AreFollowedSo}
 use Rattle.carried_ends.proofs.ArrivedAlong.{AreStates, Arrives, IsArriving, arrives}
 use Rattle.lost_ends.proofs.Along.{start-so}
 use Rattle.carried_ends.proofs.UnderWayIssuers.{Closed}
 use Rattle.carried_ends.proofs.UnderWayRun.{under-way-at}
-use Rattle.followed_links.proofs.Entries.{StepsKeep}
-use Rattle.followed_links.proofs.Following.{IsFollowing, ProcessesKeep, ServiceMoves}
+use Rattle.lost_ends.proofs.FollowedLinksEntries.{StepsKeep}
+use Rattle.lost_ends.proofs.Following.{IsFollowing, ProcessesKeep, ServiceMoves}
 
 -- the states after so many entries are those of the parts
 states-are : (states : States) (n : ℕ) (s : Service) (parts : List (List (ServiceStep × Service))) → ((m : ℕ) → states (n + m) ≡ state_after s (joined (take m parts))) → AreStates states n s parts

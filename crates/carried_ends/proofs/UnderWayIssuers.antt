@@ -15,21 +15,21 @@ use Rattle.service_step.specs.Steps.{IsServiceStep}
 use Rattle.service_step.specs.declared.state.Place.{Place}
 use Rattle.service_step.specs.declared.state.Place.TheVariants as place
 use Rattle.service_streams.specs.Streams.{cancels_send, steps_in}
-use Rattle.service_custody.specs.Deaths.{IsGone}
-use Rattle.service_custody.specs.Moves.{Ends, Lands, Leaves, Makes, Moves, Stays}
-use Rattle.entry_steps.specs.Entries.{IsUncalled}
+use Rattle.lost_ends.specs.Deaths.{IsGone}
+use Rattle.lost_ends.specs.Moves.{Ends, Lands, Leaves, Makes, Moves, Stays}
+use Rattle.lost_ends.specs.Entries.{IsUncalled}
 use Rattle.end_protocol.specs.Deeds.{Accepted, Deed, Issued, Replied, Returned}
-use Rattle.process_run.specs.States.{DeedOn}
-use Rattle.process_changes.specs.AtEnd.{deeds_at}
-use Rattle.language_links.specs.Acting.{Done, done_by}
-use Rattle.language_links.specs.Claims.{deeds_on, on_end}
-use Rattle.request_acts.specs.Acted.{process}
+use Rattle.lost_ends.specs.States.{DeedOn}
+use Rattle.lost_ends.specs.AtEnd.{deeds_at}
+use Rattle.lost_ends.specs.Acting.{Done, done_by}
+use Rattle.lost_ends.specs.Claims.{deeds_on, on_end}
+use Rattle.lost_ends.specs.Acted.{process}
 use Rattle.request_meaning.specs.Requests.{accepted, accepted_by, issued, issued_by}
-use Rattle.request_runs.specs.Sides.{Free}
-use Rattle.run_invariant.specs.Invariant.{IsSideAt, Owners, Stands}
-use Rattle.followed_links.proofs.Passing.{uncalled-cancels}
+use Rattle.lost_ends.specs.Sides.{Free}
+use Rattle.lost_ends.specs.Invariant.{IsSideAt, Owners, Stands}
+use Rattle.lost_ends.proofs.Passing.{uncalled-cancels}
 use Rattle.carried_ends.proofs.UnderWayLinks.{free-accepted}
-use Rattle.followed_links.proofs.Weaving.{AreWoven, at-both, on-done, same-owner}
+use Rattle.lost_ends.proofs.Weaving.{AreWoven, at-both, on-done, same-owner}
 
 -- ---- who issued the requests on an end
 

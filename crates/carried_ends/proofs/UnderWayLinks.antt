@@ -12,9 +12,9 @@ use Rattle.end_protocol.specs.declared.messages.Connect.{Connect}
 use Rattle.end_protocol.specs.declared.messages.Message.{Message}
 use Rattle.end_protocol.specs.Deeds.{Deed}
 use Rattle.end_protocol.specs.Falling.{outstanding_ends, reply_ends, request_ends}
-use Rattle.process_sound.proofs.Every.{every_append, every_weaker}
-use Rattle.process_changes.specs.Ledgers.{carried, how_often}
-use Rattle.process_changes.proofs.Counting.{both}
+use Rattle.lost_ends.proofs.Every.{every_append, every_weaker}
+use Rattle.lost_ends.specs.Ledgers.{carried, how_often}
+use Rattle.lost_ends.proofs.ProcessChangesCounting.{both}
 use Rattle.end_protocol.specs.Kept.{fresh}
 use Rattle.end_protocol.specs.Messages.{left_of}
 use Rattle.request_law.proofs.Run.{run_lives}
@@ -23,12 +23,12 @@ use Rattle.request_meaning.specs.Phases.{Asked, Barred, Coming, Forbidden, LetCo
 use Rattle.request_meaning.specs.Requests.{Request, accepted, issued}
 use Rattle.request_meaning.specs.Views.{asks}
 use Rattle.request_law.specs.Law.{EndsAreThere, back_on, ends_in, forth_on}
-use Rattle.request_runs.specs.Law.{HasAllEnds}
-use Rattle.request_runs.specs.Sides.{Free, IsComing, IsKept, Side, Standing, is_destroyed}
-use Rattle.request_runs.proofs.Events.{Follows, from_start, has_all_ends}
-use Rattle.run_invariant.specs.Invariant.{IsSide, Owners, Stands}
-use Rattle.service_custody.specs.Coming.{coming}
-use Rattle.service_custody.specs.Deaths.{IsGone}
+use Rattle.lost_ends.specs.RequestRunsLaw.{HasAllEnds}
+use Rattle.lost_ends.specs.Sides.{Free, IsComing, IsKept, Side, Standing, is_destroyed}
+use Rattle.lost_ends.proofs.Events.{Follows, from_start, has_all_ends}
+use Rattle.lost_ends.specs.Invariant.{IsSide, Owners, Stands}
+use Rattle.lost_ends.specs.Coming.{coming}
+use Rattle.lost_ends.specs.Deaths.{IsGone}
 use Rattle.lost_ends.proofs.Counting.{undestroyed, some-or-none}
 use Rattle.lost_ends.specs.Stopped.{IsFollowedSo, IsFound, IsSideSo, IsStopped, ends_of}
 use Rattle.carried_ends.proofs.Arrived.{often-all}

@@ -12,23 +12,23 @@ use Rattle.service_step.specs.Ends.{is_living}
 use Rattle.service_step.specs.State.{State as Service}
 use Rattle.service_step.specs.declared.state.Place.{Place}
 use Rattle.service_step.specs.declared.state.Place.TheVariants as place
-use Rattle.service_custody.specs.Deaths.{IsGone}
+use Rattle.lost_ends.specs.Deaths.{IsGone}
 use Rattle.lynx_packets.specs.declared.value.RtValue.{RtValue}
 use Rattle.end_protocol.specs.Deeds.{Accepted, Deed, Issued, Replied, Returned}
-use Rattle.process_run.specs.States.{DeedOn}
-use Rattle.process_sound.proofs.Every.{every_weaker}
-use Rattle.process_changes.specs.AtEnd.{deeds_at}
-use Rattle.process_changes.proofs.Numbers.{end_eq_self}
-use Rattle.language_links.specs.Acting.{Done}
-use Rattle.language_links.specs.Claims.{IsBetween, IsUnderWay, States, deeds_on, gets, on_end, sends}
-use Rattle.request_acts.specs.Acted.{process}
+use Rattle.lost_ends.specs.States.{DeedOn}
+use Rattle.lost_ends.proofs.Every.{every_weaker}
+use Rattle.lost_ends.specs.AtEnd.{deeds_at}
+use Rattle.lost_ends.proofs.Numbers.{end_eq_self}
+use Rattle.lost_ends.specs.Acting.{Done}
+use Rattle.lost_ends.specs.Claims.{IsBetween, IsUnderWay, States, deeds_on, gets, on_end, sends}
+use Rattle.lost_ends.specs.Acted.{process}
 use Rattle.request_meaning.specs.Requests.{Request, accepted, accepted_by, issued, issued_by}
 use Rattle.carried_ends.proofs.Arrived.{AreGot, IsOwnOf}
 use Rattle.carried_ends.proofs.ArrivedAlong.{IsSeenAt, IsSnap}
 use Rattle.carried_ends.proofs.UnderWay.{Inside, IsAtEnd, With}
 use Rattle.carried_ends.proofs.UnderWayIssuers.{Closed, Dead, IsIssued, Open, accepted_there, issuer_of, issued-count, issuers, issuers-both}
 use Rattle.carried_ends.proofs.UnderWayLinks.{AreOnLink, HasOpen, IsHeldSo, IsOnLink, held-so, open-there}
-use Rattle.followed_links.proofs.Weaving.{on-both, same-owner}
+use Rattle.lost_ends.proofs.Weaving.{on-both, same-owner}
 
 -- ---- lists
 

@@ -5,15 +5,15 @@ use Rattle.charlotte_calls.specs.Setting.{IsValid}
 use Rattle.charlotte_calls.specs.declared.setting.Setting.{Setting}
 use Rattle.kernel_entries.specs.Ranges.{IsPlacedInRange}
 use Rattle.kernel_entries.specs.declared.entry.Placed.{Placed}
-use Rattle.theorem.specs.Record.{IsLawfulRecord}
-use Rattle.language_links.specs.Acting.{Program}
-use Rattle.language_links.specs.Claims.{AreCarried, AreWith}
-use Rattle.request_acts.specs.Acted.{AreActed, AreReplayed, deeds_of}
-use Rattle.request_acts.specs.Claimed.{ActsAreLinked, AreWired, HasLinks, states_of}
-use Rattle.request_acts.proofs.Claims.{run-links}
-use Rattle.followed_links.proofs.Services.{moving, services}
-use Rattle.followed_links.proofs.Starting.{start-deeds, start-follows}
-use Rattle.followed_links.proofs.Whole.{processes, run-in-order}
+use Rattle.lost_ends.specs.Record.{IsLawfulRecord}
+use Rattle.lost_ends.specs.Acting.{Program}
+use Rattle.lost_ends.specs.Claims.{AreCarried, AreWith}
+use Rattle.lost_ends.specs.Acted.{AreActed, AreReplayed, deeds_of}
+use Rattle.lost_ends.specs.Claimed.{ActsAreLinked, AreWired, HasLinks, states_of}
+use Rattle.lost_ends.proofs.Claims.{run-links}
+use Rattle.lost_ends.proofs.Services.{moving, services}
+use Rattle.lost_ends.proofs.Starting.{start-deeds, start-follows}
+use Rattle.lost_ends.proofs.Whole.{processes, run-in-order}
 use Rattle.carried_ends.proofs.UnderWayCarried.{all-arrive, carried}
 
 pub run-arrives : (s : Setting) (programs : ℕ → Program) (merged : List Placed) (steps : ℕ → ℕ) → IsValid s → All IsPlacedInRange merged → length merged ≤ 2 ^ 28 → AreWired s programs

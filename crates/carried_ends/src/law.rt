@@ -6,11 +6,11 @@ ghost use Rattle.charlotte_calls.specs.Setting.{IsValid};
 ghost use Rattle.charlotte_calls.specs.declared.setting.Setting.{Setting as ASetting};
 ghost use Rattle.kernel_entries.specs.Ranges.{IsPlacedInRange};
 ghost use Rattle.kernel_entries.specs.declared.entry.Placed.{Placed as APlaced};
-ghost use Rattle.theorem.specs.Record.{IsLawfulRecord};
-ghost use Rattle.language_links.specs.Acting.{Program};
-ghost use Rattle.language_links.specs.Claims.{AreCarried, AreWith};
-ghost use Rattle.request_acts.specs.Acted.{AreActed, AreReplayed, deeds_of};
-ghost use Rattle.request_acts.specs.Claimed.{ActsAreLinked, AreWired, HasLinks, states_of};
+ghost use Rattle.lost_ends.specs.Record.{IsLawfulRecord};
+ghost use Rattle.lost_ends.specs.Acting.{Program};
+ghost use Rattle.lost_ends.specs.Claims.{AreCarried, AreWith};
+ghost use Rattle.lost_ends.specs.Acted.{AreActed, AreReplayed, deeds_of};
+ghost use Rattle.lost_ends.specs.Claimed.{ActsAreLinked, AreWired, HasLinks, states_of};
 
 /// Who accepts a request, or goes on with a reply, owns each living end among its values.
 pub fn ends_of_a_run_arrive()

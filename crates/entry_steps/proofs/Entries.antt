@@ -13,8 +13,8 @@ use Rattle.service_consistent.proofs.Starts.{consistent_start}
 use Rattle.service_lawful.specs.Consistent.{IsConsistent}
 use Rattle.service_step.specs.Run.{start_state, state_after}
 use Rattle.service_step.specs.State.{State}
-use Rattle.theorem.specs.Law.{GoesWithEach}
-use Rattle.theorem.specs.Record.{IsLawfulRecord}
+use Rattle.told_answers.specs.Law.{GoesWithEach}
+use Rattle.told_answers.specs.Record.{IsLawfulRecord}
 use Rattle.theorem_meaning.specs.StandsFor.{StandsFor}
 use Rattle.told_answers.proofs.Called.{call-stepped}
 use Rattle.told_answers.proofs.Local.{start-as_told}

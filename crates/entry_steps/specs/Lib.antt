@@ -1,1 +1,4 @@
 pub mod Entries
+pub use Rattle.told_answers.specs.Law
+pub use Rattle.told_answers.specs.Record
+pub use Rattle.told_answers.specs.Told

@@ -19,17 +19,17 @@ use Rattle.service_step.specs.Run.{IsRunFrom, state_after}
 use Rattle.service_step.specs.State.{State as Service}
 use Rattle.service_step.specs.Steps.{IsServiceStep}
 use Rattle.service_streams.specs.Streams.{steps_in}
-use Rattle.told_answers.specs.Told.{Heard, call_of, hears_by, heard_of, own_told}
-use Rattle.entry_steps.specs.Entries.{AreOfCall, Granted, IsEntry, IsOwn, IsToldBy, IsUncalled, Refused}
+use Rattle.run_process_steps.specs.Told.{Heard, call_of, hears_by, heard_of, own_told}
+use Rattle.run_process_steps.specs.Entries.{AreOfCall, Granted, IsEntry, IsOwn, IsToldBy, IsUncalled, Refused}
 use Rattle.end_protocol.specs.Deeds.{Deed}
-use Rattle.process_run.specs.Runs.{step as step_of}
-use Rattle.language_links.specs.Acting.{Acting, Fleet, called, hears_entry}
-use Rattle.request_acts.specs.Acted.{home_of, process}
-use Rattle.request_acts.proofs.Fleets.{asked_by, heard-here, heard-not, set-other, set-self}
-use Rattle.run_invariant.specs.Hearing.{all_hear_steps, hears_step, hears_steps, owner_told, owners, told_of, with_owner}
-use Rattle.run_invariant.specs.Invariant.{Owners, Stands}
-use Rattle.run_invariant.specs.Owners.{Asks, Over, Owner, Pends, Runs, Status, Told, owner_of, status_of}
-use Rattle.run_invariant.specs.Steps.{HasBytes, HasRoom, IsFirst, IsMine}
+use Rattle.run_process_steps.specs.Runs.{step as step_of}
+use Rattle.run_process_steps.specs.Acting.{Acting, Fleet, called, hears_entry}
+use Rattle.run_process_steps.specs.Acted.{home_of, process}
+use Rattle.run_process_steps.proofs.Fleets.{asked_by, heard-here, heard-not, set-other, set-self}
+use Rattle.run_process_steps.specs.Hearing.{all_hear_steps, hears_step, hears_steps, owner_told, owners, told_of, with_owner}
+use Rattle.run_process_steps.specs.Invariant.{Owners, Stands}
+use Rattle.run_process_steps.specs.Owners.{Asks, Over, Owner, Pends, Runs, Status, Told, owner_of, status_of}
+use Rattle.run_process_steps.specs.Steps.{HasBytes, HasRoom, IsFirst, IsMine}
 use Rattle.followed_links.proofs.Hearing.{hears-status, runs-stays, status-told}
 use Rattle.followed_links.proofs.Entries.{StepsKeep, first-silent, more-entries, uncalled-all, unheard}
 

@@ -13,17 +13,17 @@ use Rattle.service_step.specs.Run.{start_state}
 use Rattle.service_step.specs.State.{Process, State as Service}
 use Rattle.service_step.specs.declared.state.Place.{Place}
 use Rattle.service_step.specs.declared.state.Place.TheVariants as place
-use Rattle.theorem.specs.Record.{IsLawfulRecord}
-use Rattle.entry_steps.proofs.Entries.{entries-have_steps}
+use Rattle.run_process_steps.specs.Record.{IsLawfulRecord}
+use Rattle.run_process_steps.proofs.Entries.{entries-have_steps}
 use Rattle.end_protocol.specs.Deeds.{Deed}
-use Rattle.language_links.specs.Acting.{Done, Fleet, Program, at_end, at_start, done_by}
-use Rattle.language_links.specs.Claims.{AreInOrder, deeds_on}
-use Rattle.process_changes.specs.AtEnd.{deeds_at}
-use Rattle.request_acts.specs.Acted.{AreActed, deeds_of, process}
-use Rattle.request_runs.specs.Followed.{IsFollowed}
-use Rattle.request_runs.proofs.Followed.{followed_in_order}
-use Rattle.run_invariant.specs.Invariant.{IsFollowedTo}
-use Rattle.run_invariant.specs.Hearing.{owners}
+use Rattle.run_process_steps.specs.Acting.{Done, Fleet, Program, at_end, at_start, done_by}
+use Rattle.run_process_steps.specs.Claims.{AreInOrder, deeds_on}
+use Rattle.run_process_steps.specs.AtEnd.{deeds_at}
+use Rattle.run_process_steps.specs.Acted.{AreActed, deeds_of, process}
+use Rattle.run_process_steps.specs.Followed.{IsFollowed}
+use Rattle.run_process_steps.proofs.Followed.{followed_in_order}
+use Rattle.run_process_steps.specs.Invariant.{IsFollowedTo}
+use Rattle.run_process_steps.specs.Hearing.{owners}
 use Rattle.followed_links.proofs.Calling.{below-or-above}
 use Rattle.followed_links.proofs.Entries.{StepsKeep}
 use Rattle.followed_links.proofs.Following.{Follows, IsFollowing, ProcessesKeep, ServiceMoves, follows, since_of}

@@ -14,15 +14,15 @@ use Rattle.service_step.specs.State.{State as Service}
 use Rattle.service_step.specs.Steps.{IsServiceStep}
 use Rattle.service_step.specs.declared.state.Phase.TheVariants as phase
 use Rattle.service_streams.specs.Streams.{steps_in}
-use Rattle.told_answers.specs.Told.{cancel_in, later_told, or_else, own_told, report_in}
-use Rattle.entry_steps.specs.Entries.{IsOwn, IsUncalled}
+use Rattle.run_process_steps.specs.Told.{cancel_in, later_told, or_else, own_told, report_in}
+use Rattle.run_process_steps.specs.Entries.{IsOwn, IsUncalled}
 use Rattle.end_protocol.specs.Deeds.{Deed}
-use Rattle.process_run.specs.States.{State}
-use Rattle.request_acts.specs.Acted.{process}
-use Rattle.run_invariant.specs.Hearing.{all_hear, all_hear_steps, hears_step, hears_steps, owner_told, told_of, with_owner}
-use Rattle.run_invariant.specs.Invariant.{IsOwner, Owners, Stands}
-use Rattle.run_invariant.specs.Owners.{Asks, Over, Pends, Runs, Status, Told, phase_of}
-use Rattle.run_invariant.specs.Steps.{HasBytes, HasRoom, IsFirst, IsMine}
+use Rattle.run_process_steps.specs.States.{State}
+use Rattle.run_process_steps.specs.Acted.{process}
+use Rattle.run_process_steps.specs.Hearing.{all_hear, all_hear_steps, hears_step, hears_steps, owner_told, told_of, with_owner}
+use Rattle.run_process_steps.specs.Invariant.{IsOwner, Owners, Stands}
+use Rattle.run_process_steps.specs.Owners.{Asks, Over, Pends, Runs, Status, Told, phase_of}
+use Rattle.run_process_steps.specs.Steps.{HasBytes, HasRoom, IsFirst, IsMine}
 use Rattle.followed_links.proofs.Hearing.{pends-tell, told-stays, asks-stays, runs-stays, over-stays}
 
 -- the answer of one step alone

@@ -25,23 +25,23 @@ use Rattle.service_step.specs.State.{State as Service}
 use Rattle.service_step.specs.Steps.{IsServiceStep}
 use Rattle.service_step.specs.declared.state.Place.TheVariants as place
 use Rattle.service_streams.specs.Streams.{cancels_send, steps_in}
-use Rattle.service_custody.specs.Moves.{Moves}
-use Rattle.told_answers.specs.Told.{call_of, hears_by, own_told}
-use Rattle.program_runs.specs.Replay.{IsGiven}
-use Rattle.entry_steps.specs.Entries.{AreEntries, AreOfEntry, IsEntry, IsOwn, IsUncalled}
+use Rattle.run_process_steps.specs.Moves.{Moves}
+use Rattle.run_process_steps.specs.Told.{call_of, hears_by, own_told}
+use Rattle.run_process_steps.specs.Replay.{IsGiven}
+use Rattle.run_process_steps.specs.Entries.{AreEntries, AreOfEntry, IsEntry, IsOwn, IsUncalled}
 use Rattle.end_protocol.specs.Deeds.{Deed}
-use Rattle.process_run.specs.States.{DeedOn}
-use Rattle.process_run.specs.Runs.{Did, did}
-use Rattle.process_sound.specs.Told.{IsTold}
-use Rattle.process_changes.specs.AtEnd.{deeds_at}
-use Rattle.language_links.specs.Acting.{Acting, Acts, Calls, Done, Fleet, IsAsking, IsPausing, Pauses, Rests, Takes, called, deeds_before, done_by, hears_entry, paused, with_acting}
-use Rattle.request_acts.specs.Acted.{home_of, process}
-use Rattle.request_acts.proofs.Callers.{none-else, own-call}
-use Rattle.request_acts.proofs.Fleets.{asked_by, heard-here, heard-not, heard_by, set-other, set-self}
-use Rattle.run_invariant.specs.Hearing.{all_hear_steps, owner_told, owners, with_owner}
-use Rattle.run_invariant.specs.Invariant.{Owners, Stands}
-use Rattle.run_invariant.specs.Owners.{Asks, IsAskedFor, Owner, Status, given_of, owner_of, status_of}
-use Rattle.run_invariant.specs.Steps.{HasBytes, HasRoom, IsFirst, IsMine, IsStepped, MayStep, after_step, owner_after}
+use Rattle.run_process_steps.specs.States.{DeedOn}
+use Rattle.run_process_steps.specs.Runs.{Did, did}
+use Rattle.run_process_steps.specs.ProcessSoundTold.{IsTold}
+use Rattle.run_process_steps.specs.AtEnd.{deeds_at}
+use Rattle.run_process_steps.specs.Acting.{Acting, Acts, Calls, Done, Fleet, IsAsking, IsPausing, Pauses, Rests, Takes, called, deeds_before, done_by, hears_entry, paused, with_acting}
+use Rattle.run_process_steps.specs.Acted.{home_of, process}
+use Rattle.run_process_steps.proofs.Callers.{none-else, own-call}
+use Rattle.run_process_steps.proofs.Fleets.{asked_by, heard-here, heard-not, heard_by, set-other, set-self}
+use Rattle.run_process_steps.specs.Hearing.{all_hear_steps, owner_told, owners, with_owner}
+use Rattle.run_process_steps.specs.Invariant.{Owners, Stands}
+use Rattle.run_process_steps.specs.Owners.{Asks, IsAskedFor, Owner, Status, given_of, owner_of, status_of}
+use Rattle.run_process_steps.specs.Steps.{HasBytes, HasRoom, IsFirst, IsMine, IsStepped, MayStep, after_step, owner_after}
 use Rattle.followed_links.proofs.Entries.{StepsKeep}
 use Rattle.followed_links.proofs.Calling.{AreIdle, Begins, IsPrint, begun-owners, below-or-above, calling-stands, printed-owners, room-then, same-owners, steps-begin, taken-owners, taking-stands}
 use Rattle.followed_links.proofs.Passing.{IsOwnStep, weaves-step, weaves-uncalled}

@@ -7,10 +7,10 @@ use Rattle.charlotte_calls.specs.declared.calls.ServiceStep.{ServiceStep}
 use Rattle.charlotte_calls.specs.declared.names.Way.TheVariants.{Inward, Outward}
 use Rattle.charlotte_calls.specs.declared.program.Next.{Next}
 use Rattle.charlotte_calls.specs.declared.program.Next.TheVariants as next
-use Rattle.told_answers.specs.Told.{Answered, Heard, NoCall, Pending, cancel_in, first_in, heard_of, hears_by, later_told, or_else, report_in}
-use Rattle.request_acts.specs.Acted.{process}
-use Rattle.run_invariant.specs.Hearing.{hears_steps, told_of}
-use Rattle.run_invariant.specs.Owners.{Asks, Over, Pends, Runs, Told, status_of}
+use Rattle.run_process_steps.specs.Told.{Answered, Heard, NoCall, Pending, cancel_in, first_in, heard_of, hears_by, later_told, or_else, report_in}
+use Rattle.run_process_steps.specs.Acted.{process}
+use Rattle.run_process_steps.specs.Hearing.{hears_steps, told_of}
+use Rattle.run_process_steps.specs.Owners.{Asks, Over, Pends, Runs, Told, status_of}
 
 -- ---- one step after the other
 

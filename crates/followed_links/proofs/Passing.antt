@@ -12,13 +12,13 @@ use Rattle.service_step.specs.Steps.{IsServiceStep}
 use Rattle.service_step.specs.declared.state.Place.{Place}
 use Rattle.service_step.specs.declared.state.Place.TheVariants as place
 use Rattle.service_streams.specs.Streams.{cancels_send, steps_in}
-use Rattle.service_custody.specs.Moves.{Moves}
-use Rattle.service_custody.specs.Moves as moves
-use Rattle.entry_steps.specs.Entries.{IsUncalled}
+use Rattle.run_process_steps.specs.Moves.{Moves}
+use Rattle.run_process_steps.specs.Moves as moves
+use Rattle.run_process_steps.specs.Entries.{IsUncalled}
 use Rattle.end_protocol.specs.Deeds.{Deed}
-use Rattle.process_run.specs.States.{DeedOn}
-use Rattle.language_links.specs.Acting.{Done}
-use Rattle.request_acts.specs.Acted.{process}
+use Rattle.run_process_steps.specs.States.{DeedOn}
+use Rattle.run_process_steps.specs.Acting.{Done}
+use Rattle.run_process_steps.specs.Acted.{process}
 use Rattle.followed_links.proofs.Weaving.{AreWoven, Comes, Goes, IsUnowned, Passes, Stays, weaves-passing}
 
 -- the end at which a process sends or which it destroys is its own, and it alone exits

@@ -5,14 +5,14 @@ use Rattle.charlotte_calls.specs.declared.calls.Call.{Call}
 use Rattle.charlotte_calls.specs.declared.calls.Call.TheVariants as call
 use Rattle.charlotte_calls.specs.declared.names.EndId.{EndId}
 use Rattle.service_consistent.proofs.Laws.{consistent_after}
-use Rattle.service_custody.proofs.Coming.{comes-so}
-use Rattle.service_custody.proofs.Deaths.{deaths-true}
-use Rattle.service_custody.proofs.Matching.{matched-after}
-use Rattle.service_custody.proofs.Moving.{each-moves}
-use Rattle.service_custody.proofs.Phases.{phases-next}
-use Rattle.service_custody.proofs.Receiving.{receives-told}
-use Rattle.run_invariant.specs.Invariant.{Owners}
-use Rattle.run_invariant.specs.Steps.{HasBytes, HasRoom}
+use Rattle.run_process_steps.proofs.Coming.{comes-so}
+use Rattle.run_process_steps.proofs.Deaths.{deaths-true}
+use Rattle.run_process_steps.proofs.Matching.{matched-after}
+use Rattle.run_process_steps.proofs.Moving.{each-moves}
+use Rattle.run_process_steps.proofs.Phases.{phases-next}
+use Rattle.run_process_steps.proofs.Receiving.{receives-told}
+use Rattle.run_process_steps.specs.Invariant.{Owners}
+use Rattle.run_process_steps.specs.Steps.{HasBytes, HasRoom}
 use Rattle.run_service_steps.proofs.CallSteps.{own_stands}
 use Rattle.followed_links.proofs.Entries.{StepsKeep}
 use Rattle.followed_links.proofs.Following.{ServiceMoves}

@@ -24,25 +24,25 @@ use Rattle.service_step.specs.declared.state.Place.{Place as At}
 use Rattle.service_step.specs.declared.state.Place.TheVariants as place
 use Rattle.service_streams.specs.Streams.{messages, outstanding, told_in}
 use Rattle.service_consistent.proofs.Starts.{consistent_start}
-use Rattle.service_custody.specs.Coming.{coming, on_way, reported_to}
-use Rattle.service_custody.specs.Moves.{brings, enclosed_in, how_often}
-use Rattle.service_custody.proofs.Matching.{start-matched}
+use Rattle.run_process_steps.specs.Coming.{coming, on_way, reported_to}
+use Rattle.run_process_steps.specs.Moves.{brings, enclosed_in, how_often}
+use Rattle.run_process_steps.proofs.Matching.{start-matched}
 use Rattle.end_protocol.specs.Kept.{fresh}
-use Rattle.process_run.specs.States.{Gone, Holding, Keeps, Place}
-use Rattle.process_run.specs.States as process
-use Rattle.process_run.specs.Ends.{number_from, number_of, or_number, place_at}
-use Rattle.process_run.specs.Reports.{holding_of}
-use Rattle.process_changes.specs.AtEnd.{AreSingle, Seen, holding_at, known_from, seen, total}
-use Rattle.process_changes.specs.Ledgers.{carried_at, how_often as times}
-use Rattle.process_changes.specs.Telling.{Turn}
-use Rattle.process_changes.proofs.Numbers.{Found, end_eq_self, found, none_at, same_end, same_place}
-use Rattle.language_links.specs.Acting.{Program, at_start}
-use Rattle.request_acts.specs.Acted.{process as pid}
-use Rattle.request_acts.specs.Claimed.{AreWired}
-use Rattle.request_runs.specs.Sides.{Courses, Flipped, Free, Goes, Held, Holds, Pair, Rests, Side, flipped, new_pair, new_side}
-use Rattle.run_invariant.specs.Hearing.{owners}
-use Rattle.run_invariant.specs.Invariant.{AreOwners, AreSpelled, IsFollowedTo, IsInOnePlace, IsOwned, IsOwner, IsSide, IsSideAt, IsStandingIn, Owners, Stands}
-use Rattle.run_invariant.specs.Owners.{seen_of}
+use Rattle.run_process_steps.specs.States.{Gone, Holding, Keeps, Place}
+use Rattle.run_process_steps.specs.States as process
+use Rattle.run_process_steps.specs.Ends.{number_from, number_of, or_number, place_at}
+use Rattle.run_process_steps.specs.Reports.{holding_of}
+use Rattle.run_process_steps.specs.AtEnd.{AreSingle, Seen, holding_at, known_from, seen, total}
+use Rattle.run_process_steps.specs.Ledgers.{carried_at, how_often as times}
+use Rattle.run_process_steps.specs.Telling.{Turn}
+use Rattle.run_process_steps.proofs.Numbers.{Found, end_eq_self, found, none_at, same_end, same_place}
+use Rattle.run_process_steps.specs.Acting.{Program, at_start}
+use Rattle.run_process_steps.specs.Acted.{process as pid}
+use Rattle.run_process_steps.specs.Claimed.{AreWired}
+use Rattle.run_process_steps.specs.Sides.{Courses, Flipped, Free, Goes, Held, Holds, Pair, Rests, Side, flipped, new_pair, new_side}
+use Rattle.run_process_steps.specs.Hearing.{owners}
+use Rattle.run_process_steps.specs.Invariant.{AreOwners, AreSpelled, IsFollowedTo, IsInOnePlace, IsOwned, IsOwner, IsSide, IsSideAt, IsStandingIn, Owners, Stands}
+use Rattle.run_process_steps.specs.Owners.{seen_of}
 use Rattle.followed_links.proofs.Following.{IsFollowing}
 
 -- ---- the places of a process that holds these ends

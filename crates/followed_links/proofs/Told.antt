@@ -13,11 +13,11 @@ use Rattle.charlotte_calls.specs.declared.names.Pid.{Pid}
 use Rattle.charlotte_calls.specs.declared.names.Way.TheVariants.{Inward, Outward}
 use Rattle.charlotte_calls.specs.declared.program.Next.{Next}
 use Rattle.charlotte_calls.specs.declared.program.Next.TheVariants as next
-use Rattle.program_runs.specs.Replay.{IsGiven, IsNoCall}
-use Rattle.told_answers.specs.Told.{Answered, Heard, NoCall, Pending, cancel_in, first_in, granted_told, heard_of, hears_by, later_told, made_in, or_else, own_told, refusal_in, report_in}
-use Rattle.process_sound.specs.Told.{IsTold}
-use Rattle.run_invariant.specs.Owners.{given_of, status_of}
-use Rattle.run_invariant.specs.Steps.{MayStep, after_step}
+use Rattle.run_process_steps.specs.Replay.{IsGiven, IsNoCall}
+use Rattle.run_process_steps.specs.Told.{Answered, Heard, NoCall, Pending, cancel_in, first_in, granted_told, heard_of, hears_by, later_told, made_in, or_else, own_told, refusal_in, report_in}
+use Rattle.run_process_steps.specs.ProcessSoundTold.{IsTold}
+use Rattle.run_process_steps.specs.Owners.{given_of, status_of}
+use Rattle.run_process_steps.specs.Steps.{MayStep, after_step}
 
 -- ---- what a step is given
 

@@ -7,11 +7,11 @@ use Rattle.service_step.specs.State.{State as Service}
 use Rattle.service_step.specs.declared.state.Place.{Place}
 use Rattle.service_step.specs.declared.state.Place.TheVariants as place
 use Rattle.end_protocol.specs.Deeds.{Deed}
-use Rattle.process_run.specs.States.{DeedOn}
-use Rattle.process_changes.specs.AtEnd.{deeds_at}
-use Rattle.language_links.specs.Acting.{Done, done_by}
-use Rattle.language_links.specs.Claims.{deeds_on, on_end}
-use Rattle.request_acts.specs.Acted.{process}
+use Rattle.run_process_steps.specs.States.{DeedOn}
+use Rattle.run_process_steps.specs.AtEnd.{deeds_at}
+use Rattle.run_process_steps.specs.Acting.{Done, done_by}
+use Rattle.run_process_steps.specs.Claims.{deeds_on, on_end}
+use Rattle.run_process_steps.specs.Acted.{process}
 
 -- ---- deeds on an end
 

@@ -5,12 +5,12 @@ use Rattle.charlotte_calls.specs.declared.names.EndId.{EndId}
 use Rattle.charlotte_calls.specs.declared.setting.Setting.{Setting}
 use Rattle.kernel_entries.specs.Ranges.{IsPlacedInRange}
 use Rattle.kernel_entries.specs.declared.entry.Placed.{Placed}
-use Rattle.theorem.specs.Record.{IsLawfulRecord}
-use Rattle.language_links.specs.Acting.{Program}
-use Rattle.language_links.specs.Claims.{AreInOrder}
-use Rattle.request_acts.specs.Acted.{AreActed, deeds_of}
-use Rattle.request_acts.specs.Claimed.{AreWired}
-use Rattle.request_runs.specs.Followed.{IsFollowed}
+use Rattle.run_process_steps.specs.Record.{IsLawfulRecord}
+use Rattle.run_process_steps.specs.Acting.{Program}
+use Rattle.run_process_steps.specs.Claims.{AreInOrder}
+use Rattle.run_process_steps.specs.Acted.{AreActed, deeds_of}
+use Rattle.run_process_steps.specs.Claimed.{AreWired}
+use Rattle.run_process_steps.specs.Followed.{IsFollowed}
 use Rattle.followed_links.proofs.Concluding.{acts-are-followed, acts-are-in-order}
 use Rattle.followed_links.proofs.Following.{ProcessesKeep}
 use Rattle.run_process_steps.proofs.ProcessSteps.{step_stands}

@@ -6,12 +6,12 @@ ghost use Rattle.charlotte_calls.specs.declared.names.EndId.{EndId};
 ghost use Rattle.charlotte_calls.specs.declared.setting.Setting.{Setting as ASetting};
 ghost use Rattle.kernel_entries.specs.Ranges.{IsPlacedInRange};
 ghost use Rattle.kernel_entries.specs.declared.entry.Placed.{Placed as APlaced};
-ghost use Rattle.theorem.specs.Record.{IsLawfulRecord};
-ghost use Rattle.language_links.specs.Acting.{Program};
-ghost use Rattle.language_links.specs.Claims.{AreInOrder};
-ghost use Rattle.request_acts.specs.Acted.{AreActed, deeds_of};
-ghost use Rattle.request_acts.specs.Claimed.{AreWired};
-ghost use Rattle.request_runs.specs.Followed.{IsFollowed};
+ghost use Rattle.run_process_steps.specs.Record.{IsLawfulRecord};
+ghost use Rattle.run_process_steps.specs.Acting.{Program};
+ghost use Rattle.run_process_steps.specs.Claims.{AreInOrder};
+ghost use Rattle.run_process_steps.specs.Acted.{AreActed, deeds_of};
+ghost use Rattle.run_process_steps.specs.Claimed.{AreWired};
+ghost use Rattle.run_process_steps.specs.Followed.{IsFollowed};
 
 /// In a run of kernels whose processes are LYNX programs, each with ends that the setting wires to it, the deeds on each end and on its opposite are those of
 /// events at a link by itself, whoever owned them.

@@ -9,7 +9,7 @@ use Rattle.kernel_named.specs.Named.{GoWithin}
 use Rattle.kernel_net.specs.declared.letter.Letter.{Letter}
 use Rattle.kernel_outbox.specs.Letters.{outbox_to}
 use Rattle.kernel_step.specs.Start.{start_kernel}
-use Rattle.local_runs.specs.Local.{LocalEvent}
+use Rattle.program_runs.specs.Local.{LocalEvent}
 use Rattle.program_round.specs.declared.programs.Programs.{Programs}
 use Rattle.kernel_turns.proofs.Working.{run-kept}
 use Rattle.kernel_turns.specs.Courses.{marked_of}

@@ -24,15 +24,15 @@ use Rattle.kernel_net.specs.declared.letter.Letter.TheVariants as letter
 use Rattle.kernel_step.specs.Calls.{IsCallWith}
 use Rattle.kernel_step.specs.Kernel.{process_of}
 use Rattle.kernel_step.specs.Start.{home}
-use Rattle.local_runs.specs.Local.{IsLocalEvent, MakesCall, TakesPacket, gives}
+use Rattle.program_runs.specs.Local.{IsLocalEvent, MakesCall, TakesPacket, gives}
 use Rattle.program_round.specs.Doings.{behind, can_go_on, doing_after, doing_at}
 use Rattle.program_round.specs.declared.doing.Doing.{Doing}
 use Rattle.program_round.specs.declared.doing.Doing.TheVariants.{Begins, Answered, Pending, Paused, Ended}
 use Rattle.program_round.specs.declared.programs.Programs.{Programs}
 use Rattle.program_runs.proofs.Replay.{given-fits}
-use Rattle.told_answers.specs.Standing.{HasFitting, StandsAsTold}
-use Rattle.told_answers.specs.Told.{Heard, answer_of}
-use Rattle.told_answers.specs.Told as heard
+use Rattle.program_runs.specs.Standing.{HasFitting, StandsAsTold}
+use Rattle.program_runs.specs.Told.{Heard, answer_of}
+use Rattle.program_runs.specs.Told as heard
 use Rattle.kernel_turns.proofs.Calling.{call-local, stands-told}
 use Rattle.kernel_turns.proofs.Later.{got-local, later-event}
 use Rattle.kernel_turns.proofs.Playing.{lent-given, told-heard}

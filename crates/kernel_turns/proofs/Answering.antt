@@ -18,7 +18,7 @@ use Rattle.kernel_net.specs.Ports.{GetsOne, place_of}
 use Rattle.kernel_net.specs.declared.letter.Letter.{Letter}
 use Rattle.kernel_net.specs.declared.letter.Letter.TheVariants as letter
 use Rattle.kernel_step.specs.Calls.{IsCallWith}
-use Rattle.local_runs.specs.Local.{MakesCall, TakesPacket}
+use Rattle.program_runs.specs.Local.{MakesCall, TakesPacket}
 use Rattle.program_round.specs.Doings.{IsNextToGo}
 use Rattle.program_round.specs.declared.programs.Programs.{Programs}
 use Rattle.program_runs.specs.Replay.{IsNoCall}

@@ -16,13 +16,13 @@ use Rattle.kernel_core.specs.State.{KernelView, state_of}
 use Rattle.kernel_step.specs.Calls.{IsCallWith}
 use Rattle.kernel_step.specs.Kernel.{process_of}
 use Rattle.kernel_step.specs.Start.{home, start_kernel}
-use Rattle.local_runs.specs.Local.{IsLocalEvent, LocalEvent, MakesCall, entries_of, entry_of, gives}
+use Rattle.program_runs.specs.Local.{IsLocalEvent, LocalEvent, MakesCall, entries_of, entry_of, gives}
 use Rattle.program_round.specs.Doings.{can_go_on, doing_at}
 use Rattle.program_round.specs.declared.programs.Programs.{Programs}
-use Rattle.told_answers.proofs.Local.{answers-come, told-answers}
-use Rattle.told_answers.specs.Standing.{StandsAsTold}
-use Rattle.told_answers.specs.Told.{answer_of, tells}
-use Rattle.told_answers.specs.Told as heard
+use Rattle.program_runs.proofs.Local.{answers-come, told-answers}
+use Rattle.program_runs.specs.Standing.{StandsAsTold}
+use Rattle.program_runs.specs.Told.{answer_of, tells}
+use Rattle.program_runs.specs.Told as heard
 use Rattle.kernel_turns.proofs.Going.{free-runs, version-call}
 use Rattle.kernel_turns.proofs.Stepped.{IsLentOf, all-at, free-before, heard-before, plays-before}
 use Rattle.kernel_turns.specs.Nodes.{ArePlaying, HasRun, IsFree, Meaning}

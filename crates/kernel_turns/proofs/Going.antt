@@ -14,9 +14,9 @@ use Rattle.program_round.specs.Doings.{can_go_on, doing_after}
 use Rattle.program_round.specs.declared.doing.Doing.{Doing}
 use Rattle.program_round.specs.declared.doing.Doing.TheVariants.{Begins, Answered, Pending, Paused, Ended}
 use Rattle.program_runs.specs.Replay.{IsNoCall}
-use Rattle.told_answers.specs.Standing.{IsPhaseOf}
-use Rattle.told_answers.specs.Told.{Heard, NoCall}
-use Rattle.told_answers.specs.Told as heard
+use Rattle.program_runs.specs.Standing.{IsPhaseOf}
+use Rattle.program_runs.specs.Told.{Heard, NoCall}
+use Rattle.program_runs.specs.Told as heard
 use Rattle.kernel_turns.specs.Nodes.{IsDoing, IsFree, IsSettled}
 
 -- ---- its process runs

@@ -18,7 +18,7 @@ use Rattle.kernel_net.specs.declared.letter.Letter.TheVariants as letter
 use Rattle.charlotte_calls.specs.declared.setting.Setting.{Setting}
 use Rattle.kernel_entries.specs.Ranges.{IsEntryInRange}
 use Rattle.kernel_step.specs.Start.{start_kernel}
-use Rattle.local_runs.specs.Local.{IsLocalEvent, LocalEvent, entries_of, entry_of, gives, happened}
+use Rattle.program_runs.specs.Local.{IsLocalEvent, LocalEvent, entries_of, entry_of, gives, happened}
 use Rattle.kernel_turns.specs.Nodes.{HasRun}
 use Rattle.kernel_turns.proofs.Runs.{entries-more, left-more, run-more}
 use Rattle.kernel_turns.specs.Events.{Happens}

@@ -13,9 +13,9 @@ use Rattle.kernel_net.specs.Letters.{greatest_stamp}
 use Rattle.kernel_net.specs.declared.letter.Letter.TheVariants as letter
 use Rattle.kernel_step.specs.Kernel.{Kernel, next_stamp, take_step, without_answer}
 use Rattle.kernel_step.specs.Start.{start_kernel}
-use Rattle.local_runs.proofs.Kernels.{few_call, local-gives}
-use Rattle.local_runs.proofs.Together.{started-two}
-use Rattle.local_runs.specs.Local.{IsLocalEvent, IsLocalRun, LocalEvent, MakesCall, TakesPacket, gives, left_by}
+use Rattle.program_runs.proofs.Kernels.{few_call, local-gives}
+use Rattle.program_runs.proofs.Together.{started-two}
+use Rattle.program_runs.specs.Local.{IsLocalEvent, IsLocalRun, LocalEvent, MakesCall, TakesPacket, gives, left_by}
 use Rattle.transcript_lines.specs.TranscriptText.{HasFewPacket}
 use Rattle.transcript_record.proofs.KeptSteps.{call_step-gives, take_step-gives, told-without_answer}
 use Rattle.transcript_record.specs.Told.{IsTold}

@@ -17,7 +17,7 @@ use Rattle.kernel_net.specs.declared.letter.Letter.{Letter}
 use Rattle.kernel_net.specs.declared.letter.Letter.TheVariants as letter
 use Rattle.kernel_outbox.specs.Letters.{letters_for, markers_to, outbox_to}
 use Rattle.kernel_world.specs.World.{to_kernel}
-use Rattle.local_runs.specs.Local.{LocalEvent, gives}
+use Rattle.program_runs.specs.Local.{LocalEvent, gives}
 use Rattle.program_round.specs.Doings.{NoneCanGo}
 use Rattle.kernel_turns.proofs.Stepping.{one_at}
 use Rattle.kernel_turns.proofs.Sums.{sum-at, sum-both, sum-fewer, sum-less, sum-none, sum-ones}

@@ -21,3 +21,6 @@ pub mod Alike
 mod Sums
 pub mod Left
 mod Rows
+pub use Rattle.program_runs.proofs.Kernels
+pub use Rattle.program_runs.proofs.Record
+pub use Rattle.program_runs.proofs.Together

@@ -11,7 +11,7 @@ use Rattle.kernel_net.specs.declared.letter.Letter.TheVariants as letter
 use Rattle.kernel_outbox.specs.Letters.{MayAllBePut, outbox_to}
 use Rattle.kernel_step.specs.Kernel.{Kernel}
 use Rattle.kernel_step.specs.Start.{start_kernel}
-use Rattle.local_runs.specs.Local.{LocalEvent, left_by, sends_to}
+use Rattle.program_runs.specs.Local.{LocalEvent, left_by, sends_to}
 use Rattle.kernel_turns.specs.Letters.{AMarker, APacket, Told, letters_of, marker_told, packets, told, told_of}
 use Rattle.kernel_turns.specs.Nodes.{HasSent, IsBy}
 use Rattle.kernel_turns.specs.Turns.{markers_where, unbegun_markers}

@@ -15,8 +15,8 @@ use Rattle.program_round.specs.declared.doing.Doing.{Doing}
 use Rattle.program_round.specs.declared.doing.Doing.TheVariants.{Begins, Answered, Pending, Paused, Ended}
 use Rattle.program_runs.proofs.Replay.{replays-chain, replays-hears}
 use Rattle.program_runs.specs.Replay.{Asks, IsGiven, IsNoCall, Passes, Pauses, Replayed, Replays, Rests, replay_start, with_entry, with_step}
-use Rattle.told_answers.specs.Told.{Heard, NoCall, answer_of, call_of, heard_of, hears, hears_by, later_told, own_told, tells, tells_by}
-use Rattle.told_answers.specs.Told as heard
+use Rattle.program_runs.specs.Told.{Heard, NoCall, answer_of, call_of, heard_of, hears, hears_by, later_told, own_told, tells, tells_by}
+use Rattle.program_runs.specs.Told as heard
 use Rattle.kernel_turns.specs.Nodes.{IsDoing, Meaning, Plays}
 
 -- ---- an entry in which its process makes no call

@@ -6,12 +6,12 @@ use Rattle.charlotte_calls.specs.declared.names.Pid.{Pid}
 use Rattle.charlotte_calls.specs.declared.setting.Setting.{Setting}
 use Rattle.kernel_entries.specs.declared.entry.Entry.{Entry}
 use Rattle.kernel_step.specs.Start.{home}
-use Rattle.local_runs.specs.Local.{LocalEvent, MakesCall, TakesPacket}
+use Rattle.program_runs.specs.Local.{LocalEvent, MakesCall, TakesPacket}
 use Rattle.program_round.specs.Doings.{doing_at}
 use Rattle.program_round.specs.declared.doing.Doing.TheVariants.{Answered}
 use Rattle.program_round.specs.declared.programs.Programs.{Programs}
-use Rattle.told_answers.specs.Told.{call_of, tells}
-use Rattle.told_answers.specs.Told as heard
+use Rattle.program_runs.specs.Told.{call_of, tells}
+use Rattle.program_runs.specs.Told as heard
 use Rattle.kernel_turns.proofs.Playing.{all_answered-length, at-all_answered, plays-passes}
 use Rattle.kernel_turns.specs.Nodes.{ArePlaying, Meaning, Plays, takings}
 use Rattle.kernel_turns.specs.Turns.{Hears}

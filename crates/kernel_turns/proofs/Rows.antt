@@ -11,7 +11,7 @@ use Rattle.kernel_step.specs.Rows as rows
 use Rattle.kernel_step.specs.Calls as calls
 use Rattle.kernel_step.specs.Kernel as kernel
 use Rattle.kernel_step.specs.Start.{start_kernel}
-use Rattle.local_runs.specs.Local.{LocalEvent, MakesCall, TakesPacket}
+use Rattle.program_runs.specs.Local.{LocalEvent, MakesCall, TakesPacket}
 use Rattle.transcript_record.proofs.Rows.{end_a, end_b, pid}
 use Rattle.kernel_turns.specs.Letters.{AMarker, APacket, letters_from, letters_of}
 

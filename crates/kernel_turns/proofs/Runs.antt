@@ -5,7 +5,7 @@ use Rattle.charlotte_calls.specs.declared.setting.Setting.{Setting}
 use Rattle.journal_text.specs.Journal.{IsAfterLast}
 use Rattle.kernel_step.specs.Kernel.{Kernel}
 use Rattle.kernel_world.specs.World.{to_kernel}
-use Rattle.local_runs.specs.Local.{IsLocalEvent, IsLocalRun, LocalEvent, entries_of, entry_of, gives, left_by, sends_to}
+use Rattle.program_runs.specs.Local.{IsLocalEvent, IsLocalRun, LocalEvent, entries_of, entry_of, gives, left_by, sends_to}
 use Rattle.kernel_turns.specs.Letters.{letters_of, marker_told, packets, APacket, Told}
 
 pub left-more : (x : Kernel) (made : List LocalEvent) (o : LocalEvent) → left_by x (made ++ o ∷ []) ≡ (gives (left_by x made) o).kernel

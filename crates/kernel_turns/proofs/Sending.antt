@@ -18,8 +18,8 @@ use Rattle.kernel_outbox.specs.Letters.{markers_to, outbox_to}
 use Rattle.kernel_step.specs.Kernel.{Kernel}
 use Rattle.kernel_step.specs.Start.{start_kernel}
 use Rattle.kernel_world.specs.World.{to_kernel}
-use Rattle.local_runs.proofs.Kernels.{local-gives}
-use Rattle.local_runs.specs.Local.{IsLocalEvent, LocalEvent, gives, happened, left_by, sends_to}
+use Rattle.program_runs.proofs.Kernels.{local-gives}
+use Rattle.program_runs.specs.Local.{IsLocalEvent, LocalEvent, gives, happened, left_by, sends_to}
 use Rattle.transcript_record.proofs.Kept.{IsFewSent}
 use Rattle.transcript_record.proofs.KeptSteps.{Gives}
 use Rattle.kernel_turns.proofs.Later.{later-stamp, state-stamp, told-node}

@@ -17,14 +17,14 @@ use Rattle.charlotte_calls.specs.declared.setting.Setting.{Setting}
 use Rattle.kernel_entries.specs.declared.entry.Entry.{Entry}
 use Rattle.kernel_entries.specs.declared.entry.Happened.TheVariants.{Asked}
 use Rattle.kernel_step.specs.Start.{home}
-use Rattle.local_runs.specs.Local.{LocalEvent, MakesCall}
+use Rattle.program_runs.specs.Local.{LocalEvent, MakesCall}
 use Rattle.program_round.specs.Doings.{can_go_on, doing_after, doing_at}
 use Rattle.program_round.specs.declared.doing.Doing.{Doing}
 use Rattle.program_round.specs.declared.doing.Doing.TheVariants.{Answered, Ended, Pending}
 use Rattle.program_round.specs.declared.programs.Programs.{Programs}
 use Rattle.program_runs.specs.Replay.{IsGiven, IsNoCall}
-use Rattle.told_answers.specs.Told.{answer_of, call_of, tells}
-use Rattle.told_answers.specs.Told as heard
+use Rattle.program_runs.specs.Told.{answer_of, call_of, tells}
+use Rattle.program_runs.specs.Told as heard
 use Rattle.kernel_turns.proofs.Going.{goes-free, goes-settled, pause-doing}
 use Rattle.kernel_turns.proofs.Playing.{all_answered-length, at-all_answered, lent-given, plays-asks, plays-passes, plays-pauses, told-heard}
 use Rattle.kernel_turns.proofs.Programs.{takings-more}

@@ -12,7 +12,7 @@ use Rattle.kernel_net.specs.Ports.{PortView, got_from}
 use Rattle.kernel_net.specs.Rings.{Inlet}
 use Rattle.kernel_net.specs.declared.letter.Letter.{Letter}
 use Rattle.kernel_net.specs.declared.letter.Letter.TheVariants as letter
-use Rattle.local_runs.specs.Local.{LocalEvent, MakesCall, TakesPacket, takes_from}
+use Rattle.program_runs.specs.Local.{LocalEvent, MakesCall, TakesPacket, takes_from}
 use Rattle.kernel_turns.proofs.Marking.{marks, marks-append}
 use Rattle.kernel_turns.proofs.Sending.{one-more}
 use Rattle.kernel_turns.specs.Courses.{marked_of}

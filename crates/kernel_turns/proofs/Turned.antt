@@ -22,12 +22,12 @@ use Rattle.kernel_net.specs.declared.letter.Letter.{Letter}
 use Rattle.kernel_net.specs.declared.letter.Letter.TheVariants as letter
 use Rattle.kernel_step.specs.Calls.{IsCallWith}
 use Rattle.kernel_step.specs.Kernel.{process_of}
-use Rattle.local_runs.specs.Local.{IsLocalEvent, LocalEvent, MakesCall, TakesPacket, entry_of}
+use Rattle.program_runs.specs.Local.{IsLocalEvent, LocalEvent, MakesCall, TakesPacket, entry_of}
 use Rattle.program_round.specs.Doings.{can_go_on, doing_at}
 use Rattle.program_round.specs.declared.programs.Programs.{Programs}
 use Rattle.program_runs.specs.Replay.{IsNoCall}
-use Rattle.told_answers.specs.Told.{answer_of}
-use Rattle.told_answers.specs.Told as heard
+use Rattle.program_runs.specs.Told.{answer_of}
+use Rattle.program_runs.specs.Told as heard
 use Rattle.kernel_turns.proofs.Calling.{answers-told, call-local, stands-told}
 use Rattle.kernel_turns.proofs.Later.{got-local}
 use Rattle.kernel_turns.proofs.Programs.{playing-took}

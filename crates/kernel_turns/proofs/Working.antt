@@ -13,7 +13,7 @@ use Rattle.kernel_net.specs.Letters.{greatest_stamp}
 use Rattle.kernel_net.specs.declared.letter.Letter.TheVariants as letter
 use Rattle.kernel_step.specs.Kernel.{Kernel}
 use Rattle.kernel_step.specs.Start.{start_kernel}
-use Rattle.local_runs.specs.Local.{IsLocalEvent, LocalEvent, MakesCall, TakesPacket, entries_of, gives}
+use Rattle.program_runs.specs.Local.{IsLocalEvent, LocalEvent, MakesCall, TakesPacket, entries_of, gives}
 use Rattle.kernel_turns.proofs.Happening.{run-after}
 use Rattle.kernel_turns.proofs.Later.{got-local}
 use Rattle.kernel_turns.proofs.Sending.{sent-after, sent-begun, sent-got, sent-put}

@@ -7,7 +7,7 @@ use Rattle.kernel_core.specs.State.{state_of}
 use Rattle.kernel_entries.specs.declared.entry.Entry.{Entry}
 use Rattle.kernel_net.specs.Letters.{greatest_stamp}
 use Rattle.kernel_net.specs.Ports.{place_of}
-use Rattle.local_runs.specs.Local.{LocalEvent}
+use Rattle.program_runs.specs.Local.{LocalEvent}
 use Rattle.kernel_turns.specs.Nodes.{IsNode, Meaning}
 use Rattle.kernel_turns.specs.declared.base.Base.{Base}
 use Rattle.kernel_turns.specs.declared.node.Node.{Node}

@@ -5,7 +5,7 @@ use Rattle.kernel_core.specs.State.{state_of}
 use Rattle.kernel_named.specs.Named.{GoWithin}
 use Rattle.kernel_net.specs.Ports.{kernels_of, place_of}
 use Rattle.kernel_world.specs.World.{to_kernel}
-use Rattle.local_runs.specs.Local.{LocalEvent, entry_of, gives}
+use Rattle.program_runs.specs.Local.{LocalEvent, entry_of, gives}
 use Rattle.kernel_turns.specs.declared.base.Base.{Base}
 use Rattle.kernel_outbox.specs.Letters.{outbox_to}
 use Rattle.kernel_turns.specs.Letters.{packets, told}

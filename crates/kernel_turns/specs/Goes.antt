@@ -6,7 +6,7 @@ use Rattle.charlotte_calls.specs.declared.setting.Setting.{Setting}
 use Rattle.kernel_entries.specs.declared.entry.Entry.{Entry}
 use Rattle.kernel_net.specs.Ports.{place_of, places_to}
 use Rattle.kernel_outbox.specs.Letters.{outbox_to}
-use Rattle.local_runs.specs.Local.{LocalEvent}
+use Rattle.program_runs.specs.Local.{LocalEvent}
 use Rattle.program_round.specs.Doings.{NoneCanGo}
 use Rattle.kernel_turns.specs.Nodes.{IsNode, Meaning}
 use Rattle.kernel_turns.specs.Turns.{NoLetter}

@@ -6,7 +6,7 @@ use Rattle.kernel_net.specs.declared.letter.Letter.{Letter}
 use Rattle.kernel_net.specs.declared.letter.Letter.TheVariants as letter
 use Rattle.kernel_outbox.specs.Letters.{markers_to}
 use Rattle.kernel_step.specs.Kernel.{Kernel}
-use Rattle.local_runs.specs.Local.{LocalEvent, left_by, sends_to, takes_from}
+use Rattle.program_runs.specs.Local.{LocalEvent, left_by, sends_to, takes_from}
 
 -- ---- as plain data
 

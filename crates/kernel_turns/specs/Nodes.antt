@@ -12,10 +12,10 @@ use Rattle.kernel_entries.specs.Ranges.{IsEntryInRange}
 use Rattle.kernel_entries.specs.declared.entry.Entry.{Entry}
 use Rattle.kernel_net.specs.Ports.{got_from, kernels_of, place_of, put_to}
 use Rattle.kernel_step.specs.Start.{home, start_kernel}
-use Rattle.local_runs.specs.Local.{IsLocalRun, LocalEvent, MakesCall, TakesPacket, entries_of, left_by}
+use Rattle.program_runs.specs.Local.{IsLocalRun, LocalEvent, MakesCall, TakesPacket, entries_of, left_by}
 use Rattle.program_runs.specs.Replay.{Replayed, Replays, StepOf, replay_start}
-use Rattle.told_answers.specs.Told.{Heard, NoCall}
-use Rattle.told_answers.specs.Told as heard
+use Rattle.program_runs.specs.Told.{Heard, NoCall}
+use Rattle.program_runs.specs.Told as heard
 use Rattle.kernel_turns.specs.declared.base.Base.{Base}
 use Rattle.program_round.specs.declared.doing.Doing.{Doing}
 use Rattle.program_round.specs.declared.doing.Doing.TheVariants.{Begins, Answered, Pending, Paused, Ended}

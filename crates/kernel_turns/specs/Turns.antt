@@ -17,7 +17,7 @@ use Rattle.kernel_net.specs.declared.letter.Letter.{Letter}
 use Rattle.kernel_net.specs.declared.letter.Letter.TheVariants as letter
 use Rattle.kernel_step.specs.Calls.{IsCallWith}
 use Rattle.kernel_step.specs.Kernel.{process_of}
-use Rattle.local_runs.specs.Local.{MakesCall, TakesPacket}
+use Rattle.program_runs.specs.Local.{MakesCall, TakesPacket}
 use Rattle.program_runs.specs.Replay.{IsNoCall}
 use Rattle.program_round.specs.Doings.{IsNextToGo, NoneCanGo, all_answered, behind, doing_after, doing_at}
 use Rattle.program_round.specs.declared.doing.Doing.TheVariants.{Answered}

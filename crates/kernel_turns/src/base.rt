@@ -7,7 +7,7 @@ ghost use Rattle.kernel_core.specs.State.{state_of};
 ghost use Rattle.kernel_entries.specs.Ranges.{IsEntryInRange};
 ghost use Rattle.kernel_entries.specs.declared.entry.Happened.{Happened};
 ghost use Rattle.kernel_step.specs.Calls.{IsCallWith};
-ghost use Rattle.local_runs.specs.Local.{MakesCall, TakesPacket, gives};
+ghost use Rattle.program_runs.specs.Local.{MakesCall, TakesPacket, gives};
 ghost use Rattle.kernel_net.specs.Ports.{known_from, place_of, put_to};
 ghost use Rattle.kernel_outbox.specs.Letters.{MayAllBePut, outbox_to};
 ghost use Rattle.kernel_turns.specs.Amid.{SameRun};
@@ -17,7 +17,7 @@ ghost use Rattle.kernel_turns.specs.declared.base.Base.{Base as ABase};
 ghost use Rattle.kernel_turns.specs.Turns.{BeginsInTime, BeginsOnce, FindsLetter, GetsLetter, IsTime, NoLetter, PutsLetters, unbegun_markers, with_marker};
 
 use crate::course::Course;
-use charlotte_calls::{Call, NoMemory, Pid};
+use charlotte_calls::{NoMemory, Pid};
 use charlotte_packets::{Effect, Packet};
 use kernel_core::{Kernel, Request};
 use kernel_net::{Letter, Port};
@@ -89,19 +89,19 @@ impl Base {
     }
 
     /// A process makes a call. Who was answered. After want of memory kernel and journal are as before.
-    pub(crate) fn ask(&mut self, p: Pid, call: Call) -> Result<Vec<Pid>, NoMemory>
-        requires process { p.0 < length self.old.kernel.processes }
-        requires later { (mine : List EndId) → IsCallWith p (entries self.old.kernel.table) mine call
-            → IsAfterLast self.old.journal.entries (gives (state_of self.old.kernel) (MakesCall p call mine)).kernel.stamp }
+    pub(crate) fn ask(&mut self, request: &Request) -> Result<Vec<Pid>, NoMemory>
+        requires process { request.now.p.0 < length self.old.kernel.processes }
+        requires later { (mine : List EndId) → IsCallWith request.now.p (entries self.old.kernel.table) mine request.now.call
+            → IsAfterLast self.old.journal.entries (gives (state_of self.old.kernel) (MakesCall request.now.p request.now.call mine)).kernel.stamp }
         requires unsent { self.old.outbox.unsent.items ≡ [] }
         requires used { self.old.used < 2 ^ 32 - 1 }
-        ensures happens { IfOk result (λ who. (mine : List EndId) × IsCallWith p (entries self.old.kernel.table) mine call × Happens (MakesCall p call mine) self.old self.new who.items) }
+        ensures happens { IfOk result (λ who. (mine : List EndId) × IsCallWith request.now.p (entries self.old.kernel.table) mine request.now.call
+            × Happens (MakesCall request.now.p request.now.call mine) self.old self.new who.items) }
         ensures in_range { OnOk result (All IsEntryInRange self.new.journal.entries) }
         ensures same { OnErr result (SameRun self.old self.new) }
     {
-        self.journal.asked(p, &call)?;
-        let request = Request { p, call };
-        let effect = self.kernel.ask_again(&request)?;
+        self.journal.asked(request.p, &request.call)?;
+        let effect = self.kernel.ask_again(request)?;
         Ok(self.close(effect))
     }
 
@@ -132,8 +132,21 @@ impl Base {
         let steps = self.journal.note(stamp, steps);
         self.kernel.reuse_steps(steps);
         self.outbox.send(packets);
+        self.hand_back();
         self.used += 1;
         answered
+    }
+
+    /// The list of the unsent packets goes back to the kernel at once, where no letter is left to be put.
+    #[inline(always)]
+    fn hand_back(&mut self)
+        ensures unsent { self.new.outbox.unsent.items ≡ self.old.outbox.unsent.items }
+        ensures waiting { self.new.outbox.waiting ≡ self.old.outbox.waiting }
+        ensures rest { self.new ≡ record self.old { outbox = self.new.outbox } }
+    {
+        if self.outbox.is_empty() {
+            self.kernel.reuse(self.outbox.emptied());
+        }
     }
 
     /// Begins a snapshot, where it did not: a marker goes out to each kernel.

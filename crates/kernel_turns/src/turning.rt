@@ -11,7 +11,7 @@ ghost use Rattle.kernel_entries.specs.declared.entry.Entry.{Entry};
 ghost use Rattle.kernel_net.specs.Ports.{place_of};
 ghost use Rattle.kernel_step.specs.Calls.{IsCallWith};
 ghost use Rattle.kernel_step.specs.Kernel.{process_of};
-ghost use Rattle.local_runs.specs.Local.{MakesCall, TakesPacket, gives};
+ghost use Rattle.program_runs.specs.Local.{MakesCall, TakesPacket, gives};
 ghost use Rattle.program_round.specs.Doings.{IsNextToGo, doing_at};
 ghost use Rattle.program_round.specs.declared.doing.Doing.TheVariants.{Answered};
 ghost use Rattle.kernel_turns.specs.Amid.{IsAmidTurn, IsSomeNode, SameRun};
@@ -23,8 +23,9 @@ ghost use Rattle.kernel_turns.specs.declared.base.Base.{Base as ABase};
 
 use crate::node::{Node, Turn};
 use crate::watch::Watch;
-use charlotte_calls::{Answer, Call, Next, NoMemory, Pid, Program};
+use charlotte_calls::{Answer, Next, NoMemory, Pid, Program};
 use charlotte_packets::Packet;
+use kernel_core::Request;
 use kernel_entries::{tell_call, tell_packet};
 use kernel_net::Letter;
 
@@ -132,15 +133,15 @@ impl<P: Program, W: Watch> Node<P, W> {
     }
 
     /// A process makes a call.
-    fn ask(&mut self, p: Pid, call: Call) -> Result<(), NoMemory>
-        requires process { p.0 < length self.old.base.kernel.processes }
-        requires later { (mine : List EndId) → IsCallWith p (entries self.old.base.kernel.table) mine call
-            → IsAfterLast self.old.base.journal.entries (gives (state_of self.old.base.kernel) (MakesCall p call mine)).kernel.stamp }
+    fn ask(&mut self, request: &Request) -> Result<(), NoMemory>
+        requires process { request.now.p.0 < length self.old.base.kernel.processes }
+        requires later { (mine : List EndId) → IsCallWith request.now.p (entries self.old.base.kernel.table) mine request.now.call
+            → IsAfterLast self.old.base.journal.entries (gives (state_of self.old.base.kernel) (MakesCall request.now.p request.now.call mine)).kernel.stamp }
         requires unsent { self.old.base.outbox.unsent.items ≡ [] }
         requires used { self.old.base.used < 2 ^ 32 - 1 }
         requires seen { W.HasSeen self.old.watch self.old.base.journal.entries }
-        ensures asked { OnOk result ((who : List APid) × (mine : List EndId) × IsCallWith p (entries self.old.base.kernel.table) mine call
-            × Happens (MakesCall p call mine) self.old.base self.new.base who × Hears who self.old.programs self.new.programs) }
+        ensures asked { OnOk result ((who : List APid) × (mine : List EndId) × IsCallWith request.now.p (entries self.old.base.kernel.table) mine request.now.call
+            × Happens (MakesCall request.now.p request.now.call mine) self.old.base self.new.base who × Hears who self.old.programs self.new.programs) }
         ensures rest { OnOk result (self.new ≡ record self.old { base = self.new.base; programs = self.new.programs; watch = self.new.watch }) }
         ensures in_range { OnOk result (All IsEntryInRange self.new.base.journal.entries) }
         ensures seen { OnOk result (W.HasSeen self.new.watch self.new.base.journal.entries) }
@@ -151,7 +152,7 @@ impl<P: Program, W: Watch> Node<P, W> {
         ensures count { length self.new.programs.all.items ≡ length self.old.programs.all.items }
         ensures made { W.made self.new.watch ≡ W.made self.old.watch }
     {
-        let answered = self.base.ask(p, call)?;
+        let answered = self.base.ask(request)?;
         self.tell(answered);
         Ok(())
     }
@@ -198,7 +199,8 @@ impl<P: Program, W: Watch> Node<P, W> {
         match self.programs.step(self.alloc, place, answer)? {
             Next::Ask(call) => {
                 tell_call(&call);
-                self.ask(p, call)?;
+                let request = Request { p, call };
+                self.ask(&request)?;
                 Ok(Turn::Event)
             }
             Next::Pause => {

@@ -23,7 +23,7 @@ use Rattle.kernel_turns.specs.declared.base.Base.{Base}
 use Rattle.kernel_turns.specs.declared.node.Node.{Node}
 use Rattle.kernel_turns.specs.declared.node.Turn.{Turn}
 use Rattle.kernel_turns.specs.declared.node.Turn.TheVariants as turn
-use Rattle.local_runs.specs.Local.{LocalEvent}
+use Rattle.kernel_turns.specs.Local.{LocalEvent}
 use Rattle.kernel_worker.specs.Rounds.{GoesOn, IsStopped, Learns, Works, WorksUnspoiled}
 
 -- ---- an event uses a turn

@@ -5,5 +5,9 @@ pub mod Progress
 pub mod Turning
 pub mod Found
 pub mod Leaving
+pub mod Idle
 pub mod Stopping
 pub mod Crossing
+pub use Rattle.kernel_turns.proofs.Together
+pub use Rattle.node_runs.proofs.Fitting
+pub use Rattle.node_runs.proofs.Sums

@@ -15,7 +15,7 @@ use Rattle.kernel_turns.specs.Amid.{IsSomeNode}
 use Rattle.kernel_turns.specs.Goes.{StandsStill}
 use Rattle.kernel_turns.specs.Nodes.{HasSent, IsNode, Meaning}
 use Rattle.kernel_turns.specs.declared.node.Node.{Node}
-use Rattle.local_runs.specs.Local.{LocalEvent}
+use Rattle.kernel_turns.specs.Local.{LocalEvent}
 use Rattle.node_runs.proofs.Fitting.{At, Here, Past, at-map, at-of, nodes-are_lawful, nodes-are_one_run, outbox-none}
 use Rattle.node_runs.proofs.Stamps.{nodes-early}
 use Rattle.node_runs.specs.Net.{AreNodes, AreUnspoiled, HaveMet, places_of}

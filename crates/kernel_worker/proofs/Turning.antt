@@ -1,10 +1,8 @@
 -- A turn of the first of nodes, and then of the others.
 use Rattle.std.proofs.Common.{not, Bool, true, false, ◌≡◌, ◌⊎◌, inl, inr, ℕ, ◌+◌, ◌<◌, ◌≤◌, List, ◌∷◌, All, ap, refl, sym, subst, arith}
 use Rattle.std.proofs.lemmas.List.Elements.{All-head, All-tail}
-use Rattle.kernel_turns.specs.Left.{Lessens, weight}
+use Rattle.kernel_turns.specs.Left.{weight}
 use Rattle.kernel_turns.specs.declared.node.Node.{Node}
-use Rattle.kernel_turns.specs.declared.node.Turn.{Turn}
-use Rattle.kernel_turns.specs.declared.node.Turn.TheVariants as turn
 use Rattle.kernel_worker.proofs.Progress.{left-less}
 use Rattle.kernel_worker.specs.Rounds.{EachOf, Works, all_left}
 
@@ -31,9 +29,9 @@ module _ {P W : Type 0} where
       let all : all_left xs ≡ weight x.base + all_left rest = ap all_left is in
       omega (arith, fell)
 
-pub which-fell : (t : Turn) (a b : ℕ) (event others : Bool) (F : Type 0) → (event ≡ true → t ≡ turn.Event) → Lessens t a b → (others ≡ true → F) → (event ≡ true) ⊎ (others ≡ true) → (b < a) ⊎ F
-which-fell t a b event others F is less fell (inl e) = inl (subst (λ (u : Turn). Lessens u a b) (is e) less)
-which-fell t a b event others F is less fell (inr e) = inr (fell e)
+pub either-fell : (event others : Bool) (E F : Type 0) → (event ≡ true → E) → (others ≡ true → F) → (event ≡ true) ⊎ (others ≡ true) → E ⊎ F
+either-fell event others E F one rest (inl e) = inl (one e)
+either-fell event others E F one rest (inr e) = inr (rest e)
 
 pub not-false : (b : Bool) → not b ≡ false → b ≡ true
 not-false true e = refl

@@ -9,9 +9,9 @@ use Rattle.kernel_net.specs.Ports.{there_of}
 use Rattle.kernel_turns.specs.Goes.{IsAtRest}
 use Rattle.kernel_turns.specs.Nodes.{Meaning}
 use Rattle.kernel_turns.specs.declared.node.Node.{Node}
-use Rattle.local_runs.specs.Local.{IsOneRun, LocalEvent}
+use Rattle.kernel_turns.specs.Local.{IsOneRun, LocalEvent}
 use Rattle.node_runs.specs.Net.{AreNodes, AreUnspoiled, HaveMet, journals_of, left_at}
-use Rattle.theorem.specs.Record.{IsLawfulRecord}
+use Rattle.kernel_turns.specs.Record.{IsLawfulRecord}
 use Rattle.kernel_worker.specs.declared.standing.End.{End}
 use Rattle.kernel_worker.specs.declared.standing.End.TheVariants as end
 use Rattle.kernel_worker.specs.declared.beside.WithEnd.{WithEnd}

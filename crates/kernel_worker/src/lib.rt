@@ -11,6 +11,7 @@
 //! `specs/Rounds.antt`.
 #![tactic(auto)]
 
+mod awake;
 mod beside;
 mod crew;
 mod gate;

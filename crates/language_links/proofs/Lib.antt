@@ -1,1 +1,2 @@
 pub mod Worked
+pub use Rattle.program_runs.proofs.Run

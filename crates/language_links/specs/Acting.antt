@@ -8,7 +8,7 @@ use Rattle.charlotte_calls.specs.declared.names.EndId.{EndId}
 use Rattle.charlotte_calls.specs.declared.names.Pid.{Pid}
 use Rattle.charlotte_calls.specs.declared.program.Next.TheVariants as next
 use Rattle.kernel_entries.specs.declared.entry.Placed.{Placed}
-use Rattle.told_answers.specs.Told.{call_of}
+use Rattle.program_runs.specs.Told.{call_of}
 use Rattle.program_runs.specs.Replay.{IsGiven, IsNoCall, Replayed, replay_start, with_entry, with_step}
 use Rattle.process_run.specs.States.{DeedOn, Module, State, start_of}
 use Rattle.process_run.specs.Runs.{deeds, step}

@@ -1,1 +1,3 @@
 pub mod Local
+pub use Rattle.theorem.specs.Law
+pub use Rattle.theorem.specs.Record

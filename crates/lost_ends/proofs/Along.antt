@@ -17,19 +17,19 @@ use Rattle.service_step.specs.Run.{IsRunFrom, start_state, state_after}
 use Rattle.service_step.specs.State.{State as Service}
 use Rattle.service_step.specs.Steps.{IsServiceStep}
 use Rattle.service_streams.specs.Streams.{steps_in}
-use Rattle.told_answers.specs.Told.{call_of, own_told}
-use Rattle.program_runs.specs.Replay.{IsGiven}
-use Rattle.entry_steps.specs.Entries.{IsEntry, IsUncalled}
+use Rattle.followed_links.specs.Told.{call_of, own_told}
+use Rattle.followed_links.specs.Replay.{IsGiven}
+use Rattle.followed_links.specs.Entries.{IsEntry, IsUncalled}
 use Rattle.end_protocol.specs.Deeds.{Deed}
 use Rattle.process_run.specs.Runs.{did}
-use Rattle.process_changes.specs.AtEnd.{deeds_at}
-use Rattle.language_links.specs.Acting.{Done, Fleet, IsAsking, IsPausing, Program, at_start, hears_entry, paused, with_acting}
-use Rattle.request_acts.specs.Acted.{home_of}
-use Rattle.request_acts.proofs.Fleets.{asked_by}
-use Rattle.run_invariant.specs.Hearing.{all_hear, all_hear_steps, owner_told, owners, with_owner}
-use Rattle.run_invariant.specs.Invariant.{Owners, Stands}
-use Rattle.run_invariant.specs.Owners.{Asks, Owner, owner_of}
-use Rattle.run_invariant.specs.Steps.{HasBytes, HasRoom, after_step, owner_after}
+use Rattle.followed_links.specs.AtEnd.{deeds_at}
+use Rattle.followed_links.specs.Acting.{Done, Fleet, IsAsking, IsPausing, Program, at_start, hears_entry, paused, with_acting}
+use Rattle.followed_links.specs.Acted.{home_of}
+use Rattle.followed_links.proofs.Fleets.{asked_by}
+use Rattle.followed_links.specs.Hearing.{all_hear, all_hear_steps, owner_told, owners, with_owner}
+use Rattle.followed_links.specs.Invariant.{Owners, Stands}
+use Rattle.followed_links.specs.Owners.{Asks, Owner, owner_of}
+use Rattle.followed_links.specs.Steps.{HasBytes, HasRoom, after_step, owner_after}
 use Rattle.followed_links.proofs.Calling.{Begins, IsPrint, room-of, steps-begin}
 use Rattle.followed_links.proofs.Entries.{StepsKeep, more-entries}
 use Rattle.followed_links.proofs.Following.{IsFollowing, ProcessesKeep, ServiceMoves, asked, begun-room, begun-then, bytes, mine, of-entry, paused-owners, printed-then, taken-then, taken-uncalled}

@@ -12,16 +12,16 @@ use Rattle.end_protocol.specs.Happenings as happenings
 use Rattle.end_protocol.specs.Kept.{fresh}
 use Rattle.end_protocol.specs.Wanting.{is_busy, is_deaf}
 use Rattle.process_run.specs.States.{Gone, Holding, Keeps}
-use Rattle.process_changes.specs.AtEnd.{ChangeAt, ChangesAt, Seen, held_count, total}
-use Rattle.process_changes.specs.AtEnd as at_end
-use Rattle.process_changes.specs.Changes.{IsWhole}
-use Rattle.process_changes.specs.Ledgers.{carried, how_often}
-use Rattle.process_changes.proofs.Away.{StaysAway, all_away}
+use Rattle.followed_links.specs.AtEnd.{ChangeAt, ChangesAt, Seen, held_count, total}
+use Rattle.followed_links.specs.AtEnd as at_end
+use Rattle.followed_links.specs.Changes.{IsWhole}
+use Rattle.followed_links.specs.Ledgers.{carried, how_often}
+use Rattle.followed_links.proofs.Away.{StaysAway, all_away}
 use Rattle.request_law.specs.Law.{ends_in}
-use Rattle.request_runs.proofs.Changing.{may_happen, onward, receiving_done, receiving_settled, rests_deaf}
-use Rattle.request_runs.specs.Sides.{Courses, Destroyed, Does, Events, Free, Goes, Held, Holds, LetsGo, Lost, Pair, Rests, did, stands}
-use Rattle.run_invariant.specs.Invariant.{AreSpelled, IsStandingIn}
-use Rattle.run_process_steps.proofs.Heeding.{IsHeard}
+use Rattle.followed_links.proofs.Changing.{may_happen, onward, receiving_done, receiving_settled, rests_deaf}
+use Rattle.followed_links.specs.Sides.{Courses, Destroyed, Does, Events, Free, Goes, Held, Holds, LetsGo, Lost, Pair, Rests, did, stands}
+use Rattle.followed_links.specs.Invariant.{AreSpelled, IsStandingIn}
+use Rattle.followed_links.proofs.Heeding.{IsHeard}
 use Rattle.lost_ends.proofs.Counting.{some-or-none, spelled-ends}
 use Rattle.lost_ends.specs.Stopped.{IsFound, ends_of}
 

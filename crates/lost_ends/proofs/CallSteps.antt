@@ -24,11 +24,11 @@ use Rattle.service_step.specs.declared.state.Message.{Message as Sent}
 use Rattle.service_step.specs.declared.state.Place.TheVariants as place
 use Rattle.service_streams.specs.Streams.{cancels_send, messages, numbered, sent_by}
 use Rattle.service_streams.specs.Streams as streams
-use Rattle.service_custody.specs.Coming.{coming}
-use Rattle.service_custody.specs.Deaths.{IsGone}
-use Rattle.service_custody.specs.Moves.{Moves, brings}
-use Rattle.service_custody.specs.Moves as moves
-use Rattle.told_answers.specs.Told.{own_told}
+use Rattle.followed_links.specs.Coming.{coming}
+use Rattle.followed_links.specs.Deaths.{IsGone}
+use Rattle.followed_links.specs.Moves.{Moves, brings}
+use Rattle.followed_links.specs.Moves as moves
+use Rattle.followed_links.specs.Told.{own_told}
 use Rattle.lynx_packets.specs.Packets.{packet_of}
 use Rattle.end_protocol.specs.declared.kept.Kept.{Kept}
 use Rattle.end_protocol.specs.declared.messages.Message.{Message}
@@ -36,29 +36,29 @@ use Rattle.end_protocol.specs.Deeds.{Deed}
 use Rattle.end_protocol.specs.Going.{enclosed, sent}
 use Rattle.process_run.specs.Ends.{number_of}
 use Rattle.process_run.specs.States.{Holding, Keeps}
-use Rattle.process_changes.specs.Asking.{IsCallOf, IsSending}
-use Rattle.process_changes.specs.AtEnd.{held_count}
-use Rattle.request_acts.specs.Acted.{process}
+use Rattle.followed_links.specs.Asking.{IsCallOf, IsSending}
+use Rattle.followed_links.specs.AtEnd.{held_count}
+use Rattle.followed_links.specs.Acted.{process}
 use Rattle.request_meaning.specs.Links.{enclosing}
-use Rattle.request_runs.specs.Sides.{Courses, Free, Held, Lost, Pair, Side, flipped, new_pair, sending}
-use Rattle.request_runs.specs.Sides as events
-use Rattle.run_invariant.specs.Hearing.{told_of, with_owner}
-use Rattle.run_invariant.specs.Invariant.{AreSpelled, HasReceive, IsInOnePlace, IsOwned, IsOwner, IsSide, IsSideAt, IsStandingIn, Owners, Stands, told_to}
-use Rattle.run_invariant.specs.Owners.{Asks, IsAskedFor, Owner, Status, Told, destroying, given_of, seen_of, turn_of}
-use Rattle.run_invariant.specs.Steps.{IsFirst, IsMine}
-use Rattle.run_service_steps.proofs.Callers.{with}
-use Rattle.run_service_steps.proofs.CallSides.{other-goes-on, own-goes-on}
-use Rattle.run_service_steps.proofs.CallSteps.{IsNoSend}
-use Rattle.run_service_steps.proofs.Courses.{Turned}
-use Rattle.run_service_steps.proofs.Custody.{same-owner}
-use Rattle.run_service_steps.proofs.HeardSides.{none-given}
-use Rattle.run_service_steps.proofs.Owning.{Cancels, Destroys, Exits, Makes, Owns, Receives, Refuses, Sends, Waits, own-quiet, own_status, owns-granted, owns-refused, same-pid}
-use Rattle.run_service_steps.proofs.Readable.{reads-back}
-use Rattle.run_service_steps.proofs.Sending.{answered, asking, held-after, held-before, out-sent}
-use Rattle.run_service_steps.proofs.ServiceSteps.{AreFew}
-use Rattle.run_service_steps.proofs.Sides.{Next, keeps, standing-out, unmade-opposite}
-use Rattle.run_service_steps.proofs.Sides as sides
-use Rattle.run_service_steps.proofs.Standing.{unsent-base}
+use Rattle.followed_links.specs.Sides.{Courses, Free, Held, Lost, Pair, Side, flipped, new_pair, sending}
+use Rattle.followed_links.specs.Sides as events
+use Rattle.followed_links.specs.Hearing.{told_of, with_owner}
+use Rattle.followed_links.specs.Invariant.{AreSpelled, HasReceive, IsInOnePlace, IsOwned, IsOwner, IsSide, IsSideAt, IsStandingIn, Owners, Stands, told_to}
+use Rattle.followed_links.specs.Owners.{Asks, IsAskedFor, Owner, Status, Told, destroying, given_of, seen_of, turn_of}
+use Rattle.followed_links.specs.Steps.{IsFirst, IsMine}
+use Rattle.followed_links.proofs.Callers.{with}
+use Rattle.followed_links.proofs.CallSides.{other-goes-on, own-goes-on}
+use Rattle.followed_links.proofs.CallSteps.{IsNoSend}
+use Rattle.followed_links.proofs.Courses.{Turned}
+use Rattle.followed_links.proofs.Custody.{same-owner}
+use Rattle.followed_links.proofs.HeardSides.{none-given}
+use Rattle.followed_links.proofs.Owning.{Cancels, Destroys, Exits, Makes, Owns, Receives, Refuses, Sends, Waits, own-quiet, own_status, owns-granted, owns-refused, same-pid}
+use Rattle.followed_links.proofs.Readable.{reads-back}
+use Rattle.followed_links.proofs.Sending.{answered, asking, held-after, held-before, out-sent}
+use Rattle.followed_links.proofs.ServiceSteps.{AreFew}
+use Rattle.followed_links.proofs.Sides.{Next, keeps, standing-out, unmade-opposite}
+use Rattle.followed_links.proofs.Sides as sides
+use Rattle.followed_links.proofs.Standing.{unsent-base}
 use Rattle.followed_links.proofs.Services.{laws}
 use Rattle.lost_ends.proofs.Counting.{owner-alive}
 use Rattle.lost_ends.specs.Stopped.{AreFollowedSo, IsDestroying, IsFollowedSo, IsFound, IsHasty, IsSideSo, doomed_of}

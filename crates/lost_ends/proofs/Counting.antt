@@ -16,21 +16,21 @@ use Rattle.service_step.specs.declared.state.Phase.TheVariants as phase
 use Rattle.service_step.specs.declared.state.Place.{Place}
 use Rattle.service_step.specs.declared.state.Place.TheVariants as place
 use Rattle.service_streams.specs.Streams.{is_done, told_by, told_in}
-use Rattle.service_custody.specs.Moves.{brings, enclosed_in}
-use Rattle.service_custody.specs.Moves as moves
+use Rattle.followed_links.specs.Moves.{brings, enclosed_in}
+use Rattle.followed_links.specs.Moves as moves
 use Rattle.end_protocol.specs.declared.kept.Kept.{Kept}
 use Rattle.end_protocol.specs.declared.messages.Message.{Message}
 use Rattle.process_run.specs.States.{Gone, Holding, Keeps}
 use Rattle.process_run.specs.States as process_run
 use Rattle.process_run.specs.Ends.{number_of, place_at, with_holding}
 use Rattle.process_run.specs.Reports.{holding_of}
-use Rattle.process_changes.specs.AtEnd.{known_ledger}
-use Rattle.process_changes.specs.Ledgers.{brought, carried, carried_at, carried_in, how_often}
-use Rattle.process_changes.proofs.Counting.{both, with_load}
+use Rattle.followed_links.specs.AtEnd.{known_ledger}
+use Rattle.followed_links.specs.Ledgers.{brought, carried, carried_at, carried_in, how_often}
+use Rattle.followed_links.proofs.Counting.{both, with_load}
 use Rattle.request_law.specs.Law.{ends_in}
-use Rattle.request_runs.specs.Sides.{is_destroyed, Free, Lost, Side}
-use Rattle.run_invariant.specs.Invariant.{AreOwners, AreSpelled, IsAlive, IsSide, IsSideAt, IsStandingIn, Owners, told_to}
-use Rattle.run_invariant.specs.Owners.{Owner, ledger_of, phase_of, seen_of, turn_of}
+use Rattle.followed_links.specs.Sides.{is_destroyed, Free, Lost, Side}
+use Rattle.followed_links.specs.Invariant.{AreOwners, AreSpelled, IsAlive, IsSide, IsSideAt, IsStandingIn, Owners, told_to}
+use Rattle.followed_links.specs.Owners.{Owner, ledger_of, phase_of, seen_of, turn_of}
 use Rattle.followed_links.proofs.Calling.{below-or-above}
 use Rattle.lost_ends.specs.Stopped.{ends_of}
 

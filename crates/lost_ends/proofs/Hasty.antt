@@ -6,7 +6,7 @@ use Rattle.charlotte_calls.specs.declared.calls.Call.{Call}
 use Rattle.charlotte_calls.specs.declared.calls.Call.TheVariants as call
 use Rattle.charlotte_calls.specs.declared.calls.ServiceStep.{ServiceStep}
 use Rattle.charlotte_calls.specs.declared.names.EndId.{EndId}
-use Rattle.told_answers.specs.Told.{later_told}
+use Rattle.followed_links.specs.Told.{later_told}
 use Rattle.lynx_meaning.specs.Courses as actions
 use Rattle.machine_turns.specs.Turns.{Act, AllBlocked, Beat, Finished, RunsOn, Spent, Stops}
 use Rattle.machine_turns.specs.Turns as turns
@@ -16,11 +16,11 @@ use Rattle.process_run.specs.States as process
 use Rattle.process_run.specs.Actions.{acts}
 use Rattle.process_run.specs.Reports.{answered}
 use Rattle.process_run.specs.Runs.{Asking, Did, asks_first, calls, did, finishes, first_due, goes_on, is_in_use, machine_run, most_actions, most_instructions, pauses, proceeds, settles, stopped, unless_over, waits, with_deeds}
-use Rattle.process_changes.specs.Asking.{IsCallOf}
-use Rattle.request_acts.specs.Acted.{process as pid}
-use Rattle.run_invariant.specs.Hearing.{hears_step, told_of}
-use Rattle.run_invariant.specs.Owners.{Asks, IsAskedFor, Over, Owner, Pends, Runs, Status, Told, given_of}
-use Rattle.run_invariant.specs.Steps.{after_step, owner_after}
+use Rattle.followed_links.specs.Asking.{IsCallOf}
+use Rattle.followed_links.specs.Acted.{process as pid}
+use Rattle.followed_links.specs.Hearing.{hears_step, told_of}
+use Rattle.followed_links.specs.Owners.{Asks, IsAskedFor, Over, Owner, Pends, Runs, Status, Told, given_of}
+use Rattle.followed_links.specs.Steps.{after_step, owner_after}
 use Rattle.lost_ends.specs.Stopped.{IsDestroy, IsDestroying, IsHasty}
 
 -- ---- a step

@@ -16,17 +16,17 @@ use Rattle.process_run.specs.States.{DeedOn, Gone, Holding, Keeps, Place}
 use Rattle.process_run.specs.Ends.{gets_one, number_of, place_at, with_holding}
 use Rattle.process_run.specs.Reports.{holding_of}
 use Rattle.process_run.specs.Runs.{settled_in}
-use Rattle.process_ends.proofs.Numbering.{got_as}
-use Rattle.process_changes.specs.AtEnd.{AreSingle, deeds_at, holding_at, seen, total}
-use Rattle.process_changes.specs.Changes.{Change, Changes, IsHeld, IsWhole}
-use Rattle.process_changes.specs.Changes as changes
-use Rattle.process_changes.specs.Ledgers.{Ledger, carried, carried_at, how_often}
-use Rattle.process_changes.specs.Telling.{Telling, Turn}
-use Rattle.process_changes.specs.Telling as tells
-use Rattle.process_changes.proofs.AtEnd.{One, deeds_both, doomed_too, less_at, once, once_self, one_at}
-use Rattle.process_changes.proofs.Held.{at_none, here_was, holding_elsewhere, holding_here, holding_settled, kept_at, many_got, many_settled, many_with, number_with}
-use Rattle.process_changes.proofs.Numbers.{end_eq_self, numbered, other_place, same_end}
-use Rattle.request_runs.specs.Sides.{Destroyed, Pair, Side}
+use Rattle.followed_links.proofs.Numbering.{got_as}
+use Rattle.followed_links.specs.AtEnd.{AreSingle, deeds_at, holding_at, seen, total}
+use Rattle.followed_links.specs.Changes.{Change, Changes, IsHeld, IsWhole}
+use Rattle.followed_links.specs.Changes as changes
+use Rattle.followed_links.specs.Ledgers.{Ledger, carried, carried_at, how_often}
+use Rattle.followed_links.specs.Telling.{Telling, Turn}
+use Rattle.followed_links.specs.Telling as tells
+use Rattle.followed_links.proofs.AtEnd.{One, deeds_both, doomed_too, less_at, once, once_self, one_at}
+use Rattle.followed_links.proofs.Held.{at_none, here_was, holding_elsewhere, holding_here, holding_settled, kept_at, many_got, many_settled, many_with, number_with}
+use Rattle.followed_links.proofs.Numbers.{end_eq_self, numbered, other_place, same_end}
+use Rattle.followed_links.specs.Sides.{Destroyed, Pair, Side}
 use Rattle.lost_ends.proofs.Counting.{place-out}
 use Rattle.lost_ends.specs.Stopped.{ends_of}
 use Rattle.lost_ends.proofs.AtEnds.{LeadsSo, LeavesSo, StandsAt, change-leads, goes-on, stays}

@@ -13,9 +13,9 @@ use Rattle.service_step.specs.declared.state.Inward.TheVariants as inward
 use Rattle.service_step.specs.declared.state.Message.{Message as ToldMessage}
 use Rattle.service_step.specs.declared.state.Place.{Place}
 use Rattle.service_step.specs.declared.state.Place.TheVariants as place
-use Rattle.service_custody.specs.Coming.{coming}
-use Rattle.service_custody.specs.Deaths.{IsGone}
-use Rattle.service_custody.specs.Moves.{brings}
+use Rattle.followed_links.specs.Coming.{coming}
+use Rattle.followed_links.specs.Deaths.{IsGone}
+use Rattle.followed_links.specs.Moves.{brings}
 use Rattle.end_protocol.specs.declared.kept.Kept.{Kept}
 use Rattle.end_protocol.specs.Deeds.{Deed}
 use Rattle.end_protocol.specs.Going.{receive_over}
@@ -24,28 +24,28 @@ use Rattle.process_run.specs.States.{DeedOn, Gone, Holding, Keeps}
 use Rattle.process_run.specs.States as process_run
 use Rattle.process_run.specs.Ends.{number_of}
 use Rattle.process_run.specs.Runs.{Did, did}
-use Rattle.process_sound.specs.Told.{IsTold}
-use Rattle.process_changes.specs.AtEnd.{IsToldAt, Seen, ToldAt, deeds_at, held_count, holding_at, known, known_holding, seen, total}
-use Rattle.process_changes.specs.AtEnd as told_at_end
-use Rattle.process_changes.specs.Changes.{AreLeft, Changes}
-use Rattle.process_changes.specs.Ledgers.{Ledger, brought, carried, how_often}
-use Rattle.process_changes.specs.Telling.{ChangesByStep, Telling, Turn}
-use Rattle.process_changes.proofs.AtEnd.{deeds_both}
-use Rattle.process_changes.proofs.Away.{told_away}
-use Rattle.process_changes.proofs.ToldAt.{holding_known, told_at}
-use Rattle.request_acts.specs.Acted.{process}
+use Rattle.followed_links.specs.ProcessSoundTold.{IsTold}
+use Rattle.followed_links.specs.AtEnd.{IsToldAt, Seen, ToldAt, deeds_at, held_count, holding_at, known, known_holding, seen, total}
+use Rattle.followed_links.specs.AtEnd as told_at_end
+use Rattle.followed_links.specs.Changes.{AreLeft, Changes}
+use Rattle.followed_links.specs.Ledgers.{Ledger, brought, carried, how_often}
+use Rattle.followed_links.specs.Telling.{ChangesByStep, Telling, Turn}
+use Rattle.followed_links.proofs.AtEnd.{deeds_both}
+use Rattle.followed_links.proofs.Away.{told_away}
+use Rattle.followed_links.proofs.ToldAt.{holding_known, told_at}
+use Rattle.followed_links.specs.Acted.{process}
 use Rattle.request_law.specs.Law.{ends_in}
-use Rattle.request_runs.proofs.Changing.{onward}
-use Rattle.request_runs.specs.Sides.{Courses, Destroyed, Flipped, Goes, Held, Lost, Pair, Rests, Side, Standing, flipped, is_destroyed, new_pair}
-use Rattle.run_invariant.specs.Hearing.{with_owner}
-use Rattle.run_invariant.specs.Invariant.{AreSpelled, HasReceive, IsAlive, IsOwned, IsOwner, IsReceived, IsSide, IsSideAt, IsStandingIn, Owners, Stands, has_of, told_to}
-use Rattle.run_invariant.specs.Owners.{Asks, Over, Owner, Pends, Runs, Status, Told, destroying, given_of, ledger_of, seen_of, turn_of}
-use Rattle.run_invariant.specs.Steps.{IsStepped, MayStep, after_step, owner_after}
-use Rattle.run_process_steps.proofs.Afterwards.{IsLast, received, step_last}
-use Rattle.run_process_steps.proofs.Heeding.{Heeded, IsHeard, heeds}
-use Rattle.run_process_steps.proofs.Stepping.{changes, few_after, telling}
-use Rattle.run_process_steps.proofs.Telling.{tellings_lead}
-use Rattle.run_service_steps.proofs.Custody.{same-owner}
+use Rattle.followed_links.proofs.Changing.{onward}
+use Rattle.followed_links.specs.Sides.{Courses, Destroyed, Flipped, Goes, Held, Lost, Pair, Rests, Side, Standing, flipped, is_destroyed, new_pair}
+use Rattle.followed_links.specs.Hearing.{with_owner}
+use Rattle.followed_links.specs.Invariant.{AreSpelled, HasReceive, IsAlive, IsOwned, IsOwner, IsReceived, IsSide, IsSideAt, IsStandingIn, Owners, Stands, has_of, told_to}
+use Rattle.followed_links.specs.Owners.{Asks, Over, Owner, Pends, Runs, Status, Told, destroying, given_of, ledger_of, seen_of, turn_of}
+use Rattle.followed_links.specs.Steps.{IsStepped, MayStep, after_step, owner_after}
+use Rattle.followed_links.proofs.Afterwards.{IsLast, received, step_last}
+use Rattle.followed_links.proofs.Heeding.{Heeded, IsHeard, heeds}
+use Rattle.followed_links.proofs.Stepping.{changes, few_after, telling}
+use Rattle.followed_links.proofs.Telling.{tellings_lead}
+use Rattle.followed_links.proofs.Custody.{same-owner}
 use Rattle.lost_ends.proofs.Counting.{ends-of-both, held-out, owner-alive, some-or-none, spelled-ends, told-to-few, undestroyed}
 use Rattle.lost_ends.specs.Stopped.{AreFollowedSo, IsBy, IsFollowedSo, IsFound, IsHasty, IsSideSo, IsStopped, doomed_of, ends_of}
 use Rattle.lost_ends.proofs.Hasty.{step-hasty}

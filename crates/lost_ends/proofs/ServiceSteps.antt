@@ -14,26 +14,26 @@ use Rattle.service_step.specs.declared.state.Place.{Place}
 use Rattle.service_step.specs.declared.state.Place.TheVariants as place
 use Rattle.service_streams.specs.Streams.{cancels_send, messages, sent_by}
 use Rattle.service_streams.specs.Streams as streams
-use Rattle.service_custody.specs.Deaths.{IsGone}
-use Rattle.service_custody.specs.Moves.{brings}
-use Rattle.entry_steps.specs.Entries.{IsUncalled}
+use Rattle.followed_links.specs.Deaths.{IsGone}
+use Rattle.followed_links.specs.Moves.{brings}
+use Rattle.followed_links.specs.Entries.{IsUncalled}
 use Rattle.end_protocol.specs.declared.messages.Message.{Message}
 use Rattle.end_protocol.specs.Deeds.{Deed}
 use Rattle.process_run.specs.States.{Asked, Holding, State}
 use Rattle.process_run.specs.Ends.{number_of}
-use Rattle.process_changes.specs.Asking.{IsCallOf}
-use Rattle.process_changes.specs.AtEnd.{is_sent}
-use Rattle.request_acts.specs.Acted.{process}
-use Rattle.request_runs.specs.Sides.{Lost, Side}
-use Rattle.run_invariant.specs.Hearing.{all_hear, hears_step, with_owner}
-use Rattle.run_invariant.specs.Invariant.{AreSpelled, HasReceive, IsOwned, IsSideAt, IsStandingIn, Owners, Stands}
-use Rattle.run_invariant.specs.Owners.{Asks, IsAskedFor, Over, Owner, Pends, Runs, Status, Told, destroying, seen_of, turn_of}
-use Rattle.run_service_steps.proofs.Callers.{with}
-use Rattle.run_service_steps.proofs.Heard.{hears}
-use Rattle.run_service_steps.proofs.HeardSides.{goes, unanswered-receive}
-use Rattle.run_service_steps.proofs.Seen.{IsUnsent, holding-same, out-more, unanswered}
-use Rattle.run_service_steps.proofs.Sides.{Next, standing-moves}
-use Rattle.run_service_steps.proofs.StepFacts.{uncalled-keeps, uncalled-sends}
+use Rattle.followed_links.specs.Asking.{IsCallOf}
+use Rattle.followed_links.specs.AtEnd.{is_sent}
+use Rattle.followed_links.specs.Acted.{process}
+use Rattle.followed_links.specs.Sides.{Lost, Side}
+use Rattle.followed_links.specs.Hearing.{all_hear, hears_step, with_owner}
+use Rattle.followed_links.specs.Invariant.{AreSpelled, HasReceive, IsOwned, IsSideAt, IsStandingIn, Owners, Stands}
+use Rattle.followed_links.specs.Owners.{Asks, IsAskedFor, Over, Owner, Pends, Runs, Status, Told, destroying, seen_of, turn_of}
+use Rattle.followed_links.proofs.Callers.{with}
+use Rattle.followed_links.proofs.Heard.{hears}
+use Rattle.followed_links.proofs.HeardSides.{goes, unanswered-receive}
+use Rattle.followed_links.proofs.Seen.{IsUnsent, holding-same, out-more, unanswered}
+use Rattle.followed_links.proofs.Sides.{Next, standing-moves}
+use Rattle.followed_links.proofs.StepFacts.{uncalled-keeps, uncalled-sends}
 use Rattle.lost_ends.specs.Stopped.{AreFollowedSo, IsDestroying, IsFollowedSo, IsHasty, IsSideSo, doomed_of}
 use Rattle.lost_ends.proofs.Hasty.{hears-destroying}
 use Rattle.lost_ends.proofs.Sides.{doomed-destroys, found-goes, gone-stays, stopped-goes}

@@ -19,25 +19,25 @@ use Rattle.service_step.specs.declared.state.Phase.{Phase}
 use Rattle.service_step.specs.declared.state.Phase.TheVariants as phase
 use Rattle.service_step.specs.declared.state.Place.TheVariants as place
 use Rattle.service_streams.specs.Streams.{cancels_send, given_by, messages, sent_by, told_in}
-use Rattle.service_custody.specs.Coming.{ComesSo, coming}
-use Rattle.service_custody.specs.Coming as comes
-use Rattle.service_custody.specs.Deaths.{AreReceives, IsGone}
-use Rattle.service_custody.specs.Moves.{Moves}
-use Rattle.service_custody.specs.Moves as moves
-use Rattle.service_custody.specs.Phases.{next_phase}
+use Rattle.followed_links.specs.Coming.{ComesSo, coming}
+use Rattle.followed_links.specs.Coming as comes
+use Rattle.followed_links.specs.Deaths.{AreReceives, IsGone}
+use Rattle.followed_links.specs.Moves.{Moves}
+use Rattle.followed_links.specs.Moves as moves
+use Rattle.followed_links.specs.Phases.{next_phase}
 use Rattle.end_protocol.specs.declared.messages.Message.{Message}
 use Rattle.end_protocol.specs.Deeds.{Deed}
-use Rattle.process_changes.specs.Ledgers.{carried, how_often}
-use Rattle.process_changes.proofs.Counting.{both}
-use Rattle.request_acts.specs.Acted.{process}
+use Rattle.followed_links.specs.Ledgers.{carried, how_often}
+use Rattle.followed_links.proofs.Counting.{both}
+use Rattle.followed_links.specs.Acted.{process}
 use Rattle.request_law.specs.Law.{ends_in}
-use Rattle.request_runs.specs.Sides.{Destroyed, Free, Side, Standing, is_destroyed}
-use Rattle.run_invariant.specs.Invariant.{AreSpelled, IsAlive, IsInOnePlace, IsOwned, IsSide, IsToldTrue, Owners, Stands}
-use Rattle.run_invariant.specs.Owners.{Asks, Over, Owner, Pends, Runs, Status, Told, destroying, phase_of}
-use Rattle.run_service_steps.proofs.Courses.{Turned}
-use Rattle.run_service_steps.proofs.Custody.{same-owner}
-use Rattle.run_service_steps.proofs.Sides.{Next, turns}
-use Rattle.run_service_steps.proofs.StepFacts.{its-own, told-owner, waited}
+use Rattle.followed_links.specs.Sides.{Destroyed, Free, Side, Standing, is_destroyed}
+use Rattle.followed_links.specs.Invariant.{AreSpelled, IsAlive, IsInOnePlace, IsOwned, IsSide, IsToldTrue, Owners, Stands}
+use Rattle.followed_links.specs.Owners.{Asks, Over, Owner, Pends, Runs, Status, Told, destroying, phase_of}
+use Rattle.followed_links.proofs.Courses.{Turned}
+use Rattle.followed_links.proofs.Custody.{same-owner}
+use Rattle.followed_links.proofs.Sides.{Next, turns}
+use Rattle.followed_links.proofs.StepFacts.{its-own, told-owner, waited}
 use Rattle.followed_links.proofs.Services.{laws}
 use Rattle.lost_ends.proofs.Counting.{ends-of-both, owner-alive, some-or-none, spelled-ends, undestroyed}
 use Rattle.lost_ends.specs.Stopped.{IsBy, IsDestroy, IsDestroying, IsFound, IsHasty, IsStopped, doomed_of, ends_of}

@@ -9,15 +9,15 @@ use Rattle.charlotte_calls.specs.declared.names.Pid.{Pid}
 use Rattle.service_step.specs.State.{State as Service}
 use Rattle.service_step.specs.declared.state.Message.{Message}
 use Rattle.service_step.specs.declared.state.Place.TheVariants as place
-use Rattle.service_custody.specs.Coming.{coming}
-use Rattle.service_custody.specs.Deaths.{IsGone}
+use Rattle.followed_links.specs.Coming.{coming}
+use Rattle.followed_links.specs.Deaths.{IsGone}
 use Rattle.end_protocol.specs.declared.kept.Kept.{Kept}
 use Rattle.end_protocol.specs.Deeds.{Deed}
-use Rattle.process_changes.specs.Ledgers.{carried, how_often}
+use Rattle.followed_links.specs.Ledgers.{carried, how_often}
 use Rattle.request_law.specs.Law.{ends_in}
-use Rattle.request_runs.specs.Sides.{Courses, Held, Lost, Pair, Side, new_pair}
-use Rattle.run_invariant.specs.Invariant.{IsSide, Owners}
-use Rattle.run_invariant.specs.Owners.{Asks, Over, Owner, Pends, Runs, Status, Told, destroying}
+use Rattle.followed_links.specs.Sides.{Courses, Held, Lost, Pair, Side, new_pair}
+use Rattle.followed_links.specs.Invariant.{IsSide, Owners}
+use Rattle.followed_links.specs.Owners.{Asks, Over, Owner, Pends, Runs, Status, Told, destroying}
 
 -- ---- processes
 

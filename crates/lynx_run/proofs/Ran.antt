@@ -3,15 +3,15 @@ use Rattle.std.proofs.Common.{◌≡◌, ◌∙◌, ℕ, List, [], ap, subst, sy
 use Rattle.std.specs.List.{concat}
 use Rattle.charlotte_calls.specs.declared.setting.Setting.{Setting}
 use Rattle.kernel_entries.specs.declared.entry.Placed.{Placed}
-use Rattle.kernel_turns.specs.Letters.{Told}
-use Rattle.kernel_turns.specs.Nodes.{Meaning}
+use Rattle.run_links.specs.Letters.{Told}
+use Rattle.run_links.specs.Nodes.{Meaning}
 use Rattle.kernel_worker.specs.declared.standing.End.{End}
 use Rattle.kernel_worker.specs.declared.standing.End.TheVariants.{Quiet, Spent}
 use Rattle.kernel_world.specs.World.{World, after, start}
 use Rattle.lynx_command.specs.Found.{OutputLines}
 use Rattle.lynx_load.specs.Loading.{Loading}
 use Rattle.lynx_run.specs.Run.{IsRunOfPlan}
-use Rattle.node_runs.specs.Net.{pictures}
+use Rattle.kernel_worker.specs.Net.{pictures}
 use Rattle.plan_run.specs.Run.{AreReplayed, EndsSo, IsRunOf, last_of}
 use Rattle.plan_run.specs.declared.run.Ran.{Ran}
 use Rattle.transcript_audit.specs.Audit.{IsRunTranscript}

@@ -16,7 +16,7 @@ use Rattle.lynx_outside.specs.Sink.{Stream, WerePut}
 use Rattle.lynx_outside.specs.declared.status.Status.{Status}
 use Rattle.plan_run.specs.Run.{IsRunOf}
 use Rattle.plan_run.specs.declared.run.Ran.{Ran}
-use Rattle.request_acts.specs.Claimed.{AreWired}
+use Rattle.run_links.specs.Claimed.{AreWired}
 use Rattle.run_links.proofs.Plans.{loaded-wired, wired-linked}
 use Rattle.run_links.specs.Linked.{plan_programs, roles}
 use Rattle.lynx_run.specs.Run.{FindsRun, IsRunOfPlan, RunsPlan, end_of}

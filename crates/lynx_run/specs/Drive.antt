@@ -14,7 +14,7 @@ use Rattle.lynx_command.specs.Found.{Found}
 use Rattle.lynx_command.specs.declared.ending.End.TheVariants.{Done}
 use Rattle.lynx_command.specs.declared.failure.Failure.TheVariants.{Script as BrokenScript, NoMemory}
 use Rattle.script_run.specs.Performing.{IsPerformance}
-use Rattle.theorem.specs.Record.{IsLawfulRecord}
+use Rattle.trace_law.specs.Record.{IsLawfulRecord}
 use Rattle.trace_law.specs.Law.{IsBareRecord}
 
 -- the bytes are a script: no line of them is refused

@@ -13,7 +13,7 @@ use Rattle.lynx_load.specs.Started.{AreStarted}
 use Rattle.lynx_load.specs.declared.role.Role.{Role}
 use Rattle.plan_run.specs.Run.{IsRunOf}
 use Rattle.plan_run.specs.declared.run.Ran.{Ran}
-use Rattle.request_acts.specs.Claimed.{HasLinks}
+use Rattle.run_links.specs.Claimed.{HasLinks}
 use Rattle.run_links.specs.Linked.{plan_programs, roles}
 
 -- a command is done where its run is quiet, and else a kernel's turns are used up

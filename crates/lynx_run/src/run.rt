@@ -8,7 +8,7 @@ ghost use Rattle.lynx_load.specs.Started.{IsLoaded, IsReady};
 ghost use Rattle.lynx_load.specs.Told.{IsToldAs};
 ghost use Rattle.lynx_outside.specs.Logged.{Put};
 ghost use Rattle.lynx_outside.specs.Sink.{WerePut};
-ghost use Rattle.request_acts.specs.Claimed.{AreWired};
+ghost use Rattle.run_links.specs.Claimed.{AreWired};
 ghost use Rattle.run_links.specs.Linked.{plan_programs};
 ghost use Rattle.lynx_run.specs.Run.{FindsRun, RunsPlan, end_of};
 

@@ -23,10 +23,10 @@ use Rattle.kernel_turns.specs.Courses.{marked_of}
 use Rattle.kernel_turns.specs.Letters.{told}
 use Rattle.kernel_turns.specs.Nodes.{HasSent, HasTaken, Meaning, sum_of}
 use Rattle.kernel_turns.specs.declared.node.Node.{Node}
-use Rattle.local_runs.proofs.Together.{one_run}
-use Rattle.local_runs.specs.Local.{FitTogether, IsLocalRun, IsOneRun, LocalEvent, entries_of, sends_to, takes_from}
-use Rattle.theorem.proofs.Record.{record-is-lawful}
-use Rattle.theorem.specs.Record.{IsLawfulRecord}
+use Rattle.kernel_turns.proofs.Together.{one_run}
+use Rattle.kernel_turns.specs.Local.{FitTogether, IsLocalRun, IsOneRun, LocalEvent, entries_of, sends_to, takes_from}
+use Rattle.kernel_turns.proofs.Record.{record-is-lawful}
+use Rattle.kernel_turns.specs.Record.{IsLawfulRecord}
 use Rattle.node_runs.proofs.Kernels.{takes-none}
 use Rattle.node_runs.proofs.Pictures.{pictures-append, pictures-got, pictures-sent, told-append}
 use Rattle.node_runs.proofs.Sums.{merged-few, sum-at_most}

@@ -7,8 +7,8 @@ use Rattle.kernel_named.proofs.Steps.{GivesWithin, call_step-within, take_step-w
 use Rattle.kernel_named.specs.Named.{TableNamesBelow}
 use Rattle.kernel_step.specs.Kernel.{Kernel, Outcome, take_step, without_answer}
 use Rattle.kernel_step.specs.Start.{start_kernel}
-use Rattle.local_runs.proofs.Together.{got-other}
-use Rattle.local_runs.specs.Local.{IsLocalEvent, IsLocalRun, LocalEvent, MakesCall, TakesPacket, gives, takes_from}
+use Rattle.kernel_turns.proofs.Together.{got-other}
+use Rattle.kernel_turns.specs.Local.{IsLocalEvent, IsLocalRun, LocalEvent, MakesCall, TakesPacket, gives, takes_from}
 
 module _ (s : Setting) (k : ℕ) (below : k < s.kernels) where
   -- a kernel k of so many

@@ -6,7 +6,7 @@ use Rattle.kernel_step.specs.Kernel.{Kernel}
 use Rattle.kernel_net.specs.declared.letter.Letter.{Letter}
 use Rattle.kernel_net.specs.declared.letter.Letter.TheVariants as letter
 use Rattle.kernel_turns.specs.Letters.{AMarker, APacket, Told, letters_from, letters_of, marker_told, packets, told, told_of}
-use Rattle.local_runs.specs.Local.{LocalEvent, MakesCall, TakesPacket, gives, left_by, sends_to, takes_from}
+use Rattle.kernel_turns.specs.Local.{LocalEvent, MakesCall, TakesPacket, gives, left_by, sends_to, takes_from}
 use Rattle.kernel_world.specs.World.{to_kernel}
 use Rattle.node_runs.specs.Net.{pictures}
 

@@ -17,9 +17,9 @@ use Rattle.kernel_step.specs.Start.{start_kernel}
 use Rattle.kernel_turns.specs.Nodes.{Meaning, sum_of}
 use Rattle.kernel_turns.specs.declared.node.Node.{Node}
 use Rattle.kernel_world.specs.World.{to_kernel}
-use Rattle.local_runs.proofs.Kernels.{few_call, local-gives}
-use Rattle.local_runs.proofs.Together.{got-first, got-other, started-two}
-use Rattle.local_runs.specs.Local.{FitTogether, IsLocalEvent, IsLocalRun, LocalEvent, MakesCall, TakesPacket, entries_of, gives, happened, left_by, sends_to, takes_from}
+use Rattle.kernel_turns.proofs.Kernels.{few_call, local-gives}
+use Rattle.kernel_turns.proofs.Together.{got-first, got-other, started-two}
+use Rattle.kernel_turns.specs.Local.{FitTogether, IsLocalEvent, IsLocalRun, LocalEvent, MakesCall, TakesPacket, entries_of, gives, happened, left_by, sends_to, takes_from}
 use Rattle.transcript_record.proofs.Kept.{IsFewSent}
 use Rattle.transcript_record.proofs.KeptSteps.{Gives, call_step-gives, take_step-gives, told-without_answer}
 use Rattle.transcript_record.specs.Told.{IsTold}

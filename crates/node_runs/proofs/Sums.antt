@@ -4,7 +4,7 @@ use Rattle.std.proofs.lemmas.Bool.Decides.{eqb_tells, leb_tells}
 use Rattle.kernel_entries.specs.Order.{of_kernel}
 use Rattle.kernel_entries.specs.declared.entry.Placed.{Placed}
 use Rattle.kernel_turns.specs.Nodes.{sum_of}
-use Rattle.local_runs.proofs.Together.{of_kernel-other, of_kernel-own}
+use Rattle.kernel_turns.proofs.Together.{of_kernel-other, of_kernel-own}
 
 pub sum-less : (n : ℕ) (f g : ℕ → ℕ) → ((i : ℕ) → i < n → f i ≤ g i) → sum_of n f ≤ sum_of n g
 sum-less zero f g each = omega arith

@@ -10,7 +10,7 @@ use Rattle.kernel_outbox.specs.Letters.{outbox_to}
 use Rattle.kernel_turns.specs.Letters.{AMarker, APacket, Told, told}
 use Rattle.kernel_turns.specs.Nodes.{IsNode, Meaning}
 use Rattle.kernel_turns.specs.declared.node.Node.{Node}
-use Rattle.local_runs.specs.Local.{LocalEvent}
+use Rattle.kernel_turns.specs.Local.{LocalEvent}
 
 -- ---- what is under way
 

@@ -1,7 +1,7 @@
 -- A run in which no kernel used all its turns is quiet.
 use Rattle.std.proofs.Common.{◌≡◌, ℕ, ◌<◌, List, refl}
 use Rattle.charlotte_calls.specs.declared.setting.Setting.{Setting}
-use Rattle.kernel_turns.specs.Nodes.{Meaning}
+use Rattle.kernel_worker.specs.Nodes.{Meaning}
 use Rattle.kernel_worker.specs.declared.standing.End.{End}
 use Rattle.kernel_worker.specs.declared.standing.End.TheVariants as end
 use Rattle.plan_run.specs.Run.{EndsSo, IsRunOf, turns_of}

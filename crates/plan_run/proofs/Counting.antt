@@ -7,12 +7,12 @@ use Rattle.charlotte_calls.specs.declared.setting.Setting.{Setting}
 use Rattle.kernel_entries.specs.Order.{IsMerge, of_kernel}
 use Rattle.kernel_entries.specs.declared.entry.Entry.{Entry}
 use Rattle.kernel_entries.specs.declared.entry.Placed.{Placed}
-use Rattle.kernel_turns.specs.Nodes.{Meaning, sum_of}
-use Rattle.kernel_turns.specs.declared.node.Node.{Node}
-use Rattle.local_runs.specs.Local.{LocalEvent}
-use Rattle.node_runs.proofs.Fitting.{At, Here, Past, at-of, past-map}
-use Rattle.node_runs.proofs.Sums.{merged-few}
-use Rattle.node_runs.specs.Net.{AreNodes, journals_of}
+use Rattle.kernel_worker.specs.Nodes.{Meaning, sum_of}
+use Rattle.kernel_worker.specs.Node.{Node}
+use Rattle.kernel_worker.specs.Local.{LocalEvent}
+use Rattle.kernel_worker.proofs.Fitting.{At, Here, Past, at-of, past-map}
+use Rattle.kernel_worker.proofs.Sums.{merged-few}
+use Rattle.kernel_worker.specs.Net.{AreNodes, journals_of}
 use Rattle.plan_run.proofs.Journals.{entries-of}
 
 sum-bound : (n most : ℕ) (f : ℕ → ℕ) → ((i : ℕ) → i < n → f i ≤ most) → sum_of n f ≤ n * most

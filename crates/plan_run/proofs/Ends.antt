@@ -8,15 +8,15 @@ use Rattle.charlotte_calls.specs.declared.setting.Setting.{Setting}
 use Rattle.kernel_entries.specs.Order.{IsMerge, of_kernel}
 use Rattle.kernel_entries.specs.declared.entry.Placed.{Placed}
 use Rattle.kernel_step.specs.Start.{start_kernel}
-use Rattle.kernel_turns.specs.Nodes.{Meaning, takings}
-use Rattle.kernel_turns.specs.declared.node.Node.{Node}
-use Rattle.kernel_turns.specs.declared.watch.NoWatch.{NoWatch}
+use Rattle.kernel_worker.specs.Nodes.{Meaning, takings}
+use Rattle.kernel_worker.specs.Node.{Node}
+use Rattle.kernel_worker.specs.NoWatch.{NoWatch}
 use Rattle.kernel_worker.proofs.Each.{all-at}
 use Rattle.kernel_worker.specs.Ends.{Ends, IsQuiet as AreQuiet}
 use Rattle.kernel_worker.specs.declared.standing.End.{End}
 use Rattle.kernel_worker.specs.declared.standing.End.TheVariants as end
-use Rattle.local_runs.specs.Local.{LocalEvent}
-use Rattle.node_runs.specs.Net.{AreNodes, AreUnspoiled, journals_of}
+use Rattle.kernel_worker.specs.Local.{LocalEvent}
+use Rattle.kernel_worker.specs.Net.{AreNodes, AreUnspoiled, journals_of}
 use Rattle.node_start.specs.Homes.{programs_on}
 use Rattle.plan_run.proofs.Journals.{entries-of, takings-in}
 use Rattle.plan_run.proofs.Letters.{letters_at, none-out, none-there, none-under_way}

@@ -12,12 +12,12 @@ use Rattle.kernel_entries.specs.Ranges.{IsEntryInRange, IsPlacedInRange}
 use Rattle.kernel_entries.specs.declared.entry.Entry.{Entry}
 use Rattle.kernel_entries.specs.declared.entry.Placed.{Placed}
 use Rattle.kernel_step.specs.Kernel.{Kernel}
-use Rattle.kernel_turns.specs.Nodes.{Meaning, takings}
-use Rattle.kernel_turns.specs.declared.node.Node.{Node}
-use Rattle.local_runs.proofs.Together.{of_kernel-other, of_kernel-own}
-use Rattle.local_runs.specs.Local.{LocalEvent, MakesCall, TakesPacket, entries_of, entry_of, gives}
-use Rattle.node_runs.proofs.Fitting.{At, Here, Past, at-map, at-of, past-map}
-use Rattle.node_runs.specs.Net.{AreNodes, journals_of}
+use Rattle.kernel_worker.specs.Nodes.{Meaning, takings}
+use Rattle.kernel_worker.specs.Node.{Node}
+use Rattle.kernel_worker.proofs.Together.{of_kernel-other, of_kernel-own}
+use Rattle.kernel_worker.specs.Local.{LocalEvent, MakesCall, TakesPacket, entries_of, entry_of, gives}
+use Rattle.kernel_worker.proofs.Fitting.{At, Here, Past, at-map, at-of, past-map}
+use Rattle.kernel_worker.specs.Net.{AreNodes, journals_of}
 use Rattle.written_journal.specs.Kept.{Happenings}
 use Rattle.written_journal.specs.Merging.{journals_of as entries_in}
 use Rattle.plan_run.specs.Run.{taking, takings_in}

@@ -8,13 +8,13 @@ use Rattle.kernel_entries.specs.declared.entry.Entry.{Entry}
 use Rattle.kernel_net.specs.Ports.{kernels_of, place_of, there_of}
 use Rattle.kernel_net.specs.declared.letter.Letter.{Letter}
 use Rattle.kernel_outbox.specs.Letters.{outbox_to}
-use Rattle.kernel_turns.specs.Letters.{Told, told}
-use Rattle.kernel_turns.specs.Nodes.{HasSent, Meaning}
-use Rattle.kernel_turns.specs.declared.node.Node.{Node}
+use Rattle.kernel_worker.specs.Letters.{Told, told}
+use Rattle.kernel_worker.specs.Nodes.{HasSent, Meaning}
+use Rattle.kernel_worker.specs.Node.{Node}
 use Rattle.kernel_worker.specs.Ends.{IsNetEmpty}
-use Rattle.local_runs.specs.Local.{LocalEvent}
-use Rattle.node_runs.proofs.Fitting.{At, Here, Past, all-get, at-map, at-of, outbox-none, past-map}
-use Rattle.node_runs.specs.Net.{AreNodes, AreUnspoiled, left_at, left_between, pictures}
+use Rattle.kernel_worker.specs.Local.{LocalEvent}
+use Rattle.kernel_worker.proofs.Fitting.{At, Here, Past, all-get, at-map, at-of, outbox-none, past-map}
+use Rattle.kernel_worker.specs.Net.{AreNodes, AreUnspoiled, left_at, left_between, pictures}
 
 none-told : (ls : List Letter) → told ls ≡ [] → ls ≡ []
 none-told [] none = refl

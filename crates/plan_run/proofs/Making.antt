@@ -2,15 +2,15 @@
 use Rattle.std.proofs.Common.{◌≡◌, ℕ, ◌≤◌, List, [], ◌∷◌, All, length, map, Result, Ok, Err, IfOk, OnOk, ap, sym, subst, ◌∙◌, arith}
 use Rattle.std.proofs.lemmas.List.Elements.{All-cons, All-head, All-nil, All-tail, All-weaker}
 use Rattle.charlotte_calls.specs.declared.setting.Setting.{Setting}
-use Rattle.kernel_turns.specs.Nodes.{Meaning}
-use Rattle.kernel_turns.specs.declared.base.Orders.{Orders}
-use Rattle.kernel_turns.specs.declared.node.Node.{Node}
-use Rattle.kernel_turns.specs.declared.watch.NoWatch.{NoWatch}
+use Rattle.kernel_worker.specs.Nodes.{Meaning}
+use Rattle.kernel_worker.specs.Orders.{Orders}
+use Rattle.kernel_worker.specs.Node.{Node}
+use Rattle.kernel_worker.specs.NoWatch.{NoWatch}
 use Rattle.kernel_worker.proofs.Each.{each-all}
 use Rattle.kernel_worker.specs.Ends.{Ends, RunTogether}
 use Rattle.kernel_worker.specs.Rounds.{EachOf, GoesOn}
 use Rattle.kernel_worker.specs.declared.standing.End.{End}
-use Rattle.node_runs.specs.Net.{AreNodes, AreUnspoiled, HaveMet}
+use Rattle.kernel_worker.specs.Net.{AreNodes, AreUnspoiled, HaveMet}
 use Rattle.node_start.specs.Homes.{programs_on}
 use Rattle.plan_run.specs.Nodes.{AreReady, HaveEnded}
 

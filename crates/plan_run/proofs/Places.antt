@@ -6,7 +6,7 @@ use Rattle.std.proofs.lemmas.Bool.{eq-eqb}
 use Rattle.std.proofs.lemmas.Bool.Decides.{eqb_tells}
 use Rattle.std.proofs.lemmas.List.Sums.{sum_by-cons}
 use Rattle.charlotte_calls.specs.declared.names.Pid.{Pid}
-use Rattle.kernel_turns.specs.Nodes.{sum_of}
+use Rattle.kernel_worker.specs.Nodes.{sum_of}
 use Rattle.node_start.proofs.Placed.{AreApart}
 use Rattle.node_start.specs.Homes.{programs_from, with_one}
 

@@ -11,17 +11,17 @@ use Rattle.kernel_entries.specs.Order.{IsMerge}
 use Rattle.kernel_entries.specs.declared.entry.Entry.{Entry}
 use Rattle.kernel_entries.specs.declared.entry.Placed.{Placed}
 use Rattle.kernel_step.specs.Start.{home}
-use Rattle.kernel_turns.specs.Nodes.{ArePlaying, IsDoing, Meaning, Plays, sum_of, takings}
-use Rattle.kernel_turns.specs.declared.node.Node.{Node}
-use Rattle.local_runs.specs.Local.{LocalEvent}
-use Rattle.node_runs.proofs.Fitting.{At, Here, Past, all-get, at-of}
-use Rattle.node_runs.specs.Net.{AreNodes, AreUnspoiled, journals_of}
+use Rattle.kernel_worker.specs.Nodes.{ArePlaying, IsDoing, Meaning, Plays, sum_of, takings}
+use Rattle.kernel_worker.specs.Node.{Node}
+use Rattle.kernel_worker.specs.Local.{LocalEvent}
+use Rattle.kernel_worker.proofs.Fitting.{At, Here, Past, all-get, at-of}
+use Rattle.kernel_worker.specs.Net.{AreNodes, AreUnspoiled, journals_of}
 use Rattle.node_start.proofs.Placed.{IsOf, on-apart, on-at}
 use Rattle.node_start.specs.Homes.{programs_on}
 use Rattle.program_round.specs.Doings.{NoneCanGo, can_go_on, doing_at}
 use Rattle.program_round.specs.declared.doing.Doing.{Doing}
 use Rattle.program_round.specs.declared.doing.Doing.TheVariants.{Begins, Answered, Pending, Paused, Ended}
-use Rattle.program_runs.specs.Replay.{Replayed, Replays, replay_start}
+use Rattle.kernel_worker.specs.Replay.{Replayed, Replays, replay_start}
 use Rattle.plan_run.proofs.Journals.{entries-of}
 use Rattle.plan_run.proofs.Places.{on-there, place_in, place-is, sum-places}
 use Rattle.plan_run.specs.Run.{AreReplayed, IsOver, process}

@@ -6,15 +6,15 @@ use Rattle.std.proofs.lemmas.Option.{slice_get_within}
 use Rattle.charlotte_calls.specs.declared.setting.Setting.{Setting}
 use Rattle.kernel_entries.specs.Order.{IsMerge}
 use Rattle.kernel_entries.specs.declared.entry.Placed.{Placed}
-use Rattle.kernel_turns.specs.Nodes.{Meaning}
-use Rattle.kernel_turns.specs.declared.node.Node.{Node}
-use Rattle.kernel_turns.specs.declared.watch.NoWatch.{NoWatch}
+use Rattle.kernel_worker.specs.Nodes.{Meaning}
+use Rattle.kernel_worker.specs.Node.{Node}
+use Rattle.kernel_worker.specs.NoWatch.{NoWatch}
 use Rattle.kernel_worker.proofs.Each.{all-at}
 use Rattle.kernel_worker.specs.Ends.{Ends}
 use Rattle.kernel_worker.specs.declared.standing.End.{End}
 use Rattle.kernel_worker.specs.declared.standing.End.TheVariants as end
-use Rattle.local_runs.specs.Local.{IsOneRun, LocalEvent}
-use Rattle.node_runs.specs.Net.{journals_of, left_at, pictures}
+use Rattle.kernel_worker.specs.Local.{IsOneRun, LocalEvent}
+use Rattle.kernel_worker.specs.Net.{journals_of, left_at, pictures}
 use Rattle.node_start.specs.Homes.{programs_on}
 use Rattle.trace_law.proofs.Run.{record_is_bare}
 use Rattle.transcript_lines.specs.Transcript.{transcript_lines}

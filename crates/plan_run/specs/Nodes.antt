@@ -1,12 +1,12 @@
 -- The nodes of a run, before it and behind it.
 use Rattle.std.specs.Prelude.{◌≡◌, ℕ, List, [], All}
 use Rattle.charlotte_calls.specs.declared.setting.Setting.{Setting}
-use Rattle.kernel_turns.specs.Nodes.{Meaning}
-use Rattle.kernel_turns.specs.declared.node.Node.{Node}
-use Rattle.kernel_turns.specs.declared.watch.NoWatch.{NoWatch}
+use Rattle.kernel_worker.specs.Nodes.{Meaning}
+use Rattle.kernel_worker.specs.Node.{Node}
+use Rattle.kernel_worker.specs.NoWatch.{NoWatch}
 use Rattle.kernel_worker.specs.Ends.{Ends, RanTogether}
 use Rattle.kernel_worker.specs.declared.standing.End.{End}
-use Rattle.node_runs.specs.Net.{AreNodes, AreUnspoiled, HaveMet}
+use Rattle.kernel_worker.specs.Net.{AreNodes, AreUnspoiled, HaveMet}
 use Rattle.node_start.specs.Homes.{programs_on}
 
 module _ {P S : Type 0} (m : Meaning P S) (s : Setting) (programs : List P) (turns : ℕ) where

@@ -11,16 +11,16 @@ use Rattle.kernel_entries.specs.declared.entry.Happened.{Happened}
 use Rattle.kernel_entries.specs.declared.entry.Happened.TheVariants.{Asked, Took}
 use Rattle.kernel_entries.specs.declared.entry.Placed.{Placed}
 use Rattle.kernel_step.specs.Start.{home}
-use Rattle.kernel_turns.specs.Letters.{Told}
-use Rattle.kernel_turns.specs.Nodes.{Meaning}
+use Rattle.kernel_worker.specs.Letters.{Told}
+use Rattle.kernel_worker.specs.Nodes.{Meaning}
 use Rattle.kernel_worker.specs.declared.standing.End.{End}
 use Rattle.kernel_worker.specs.declared.standing.End.TheVariants as end
-use Rattle.local_runs.specs.Local.{IsOneRun, LocalEvent}
-use Rattle.node_runs.specs.Net.{pictures}
+use Rattle.kernel_worker.specs.Local.{IsOneRun, LocalEvent}
+use Rattle.kernel_worker.specs.Net.{pictures}
 use Rattle.node_start.specs.Homes.{programs_on}
-use Rattle.program_runs.specs.Replay.{Replayed, ReplaysProgram}
-use Rattle.theorem.specs.Record.{IsLawfulRecord}
-use Rattle.told_answers.specs.Told.{Pending}
+use Rattle.kernel_worker.specs.Replay.{Replayed, ReplaysProgram}
+use Rattle.trace_law.specs.Record.{IsLawfulRecord}
+use Rattle.kernel_worker.specs.Told.{Pending}
 use Rattle.trace_law.specs.Law.{IsBareRecord}
 use Rattle.transcript_lines.specs.Transcript.{transcript_lines}
 use Rattle.transcript_lines.specs.TranscriptText.{IsTranscript}

@@ -4,7 +4,7 @@ ghost use Rattle.charlotte_calls.specs.Setting.{IsValid};
 ghost use Rattle.charlotte_calls.specs.declared.setting.Setting.{Setting as ASetting};
 ghost use Rattle.kernel_entries.specs.Order.{IsMerge};
 ghost use Rattle.kernel_worker.specs.Ends.{AreSomeNodes};
-ghost use Rattle.node_runs.specs.Net.{journals_of as entries_of};
+ghost use Rattle.kernel_worker.specs.Net.{journals_of as entries_of};
 ghost use Rattle.plan_run.specs.Nodes.{AreReady, HaveEnded};
 
 use charlotte_calls::{NoMemory, Program, Setting};

@@ -12,3 +12,4 @@ pub mod AtEnd
 pub mod ToldAt
 pub mod Away
 pub mod Growing
+pub use Rattle.process_ends.proofs.Numbering

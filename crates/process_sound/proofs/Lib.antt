@@ -21,3 +21,4 @@ pub mod Calls
 pub mod Runs
 pub mod Starts
 pub mod Conditions
+pub use Rattle.process_run.proofs.Modules

@@ -7,3 +7,5 @@ pub mod Processes
 pub mod Acting
 pub mod Told
 pub mod May
+pub use Rattle.process_run.specs.Runs
+pub use Rattle.process_run.specs.States

@@ -4,11 +4,11 @@ use Rattle.std.proofs.lemmas.Bool.{eq-eqb, eqb-true}
 use Rattle.kernel_entries.specs.Order.{of_kernel}
 use Rattle.kernel_entries.specs.declared.entry.Entry.{Entry}
 use Rattle.kernel_entries.specs.declared.entry.Placed.{Placed}
-use Rattle.process_run.specs.Runs.{step}
-use Rattle.process_run.specs.States.{State}
-use Rattle.program_runs.specs.Replay.{Replayed, Replays}
-use Rattle.program_runs.specs.Replay as replay
-use Rattle.told_answers.specs.Told.{call_of}
+use Rattle.process_sound.specs.Runs.{step}
+use Rattle.process_sound.specs.States.{State}
+use Rattle.language_links.specs.Replay.{Replayed, Replays}
+use Rattle.language_links.specs.Replay as replay
+use Rattle.language_links.specs.Told.{call_of}
 use Rattle.language_links.specs.Acting.{Acting, Acts, Calls, Done, Fleet, Pauses, Rests, Takes, called, hears_entry, paused, with_acting}
 use Rattle.request_acts.specs.Acted.{process}
 use Rattle.request_acts.proofs.Fleets.{asked_by, entries-here, entries-not, heard-here, heard-not, heard_by, set-other, set-self}

@@ -5,8 +5,8 @@ use Rattle.charlotte_calls.specs.declared.calls.Call.{Call}
 use Rattle.charlotte_calls.specs.declared.names.Pid.{Pid}
 use Rattle.kernel_entries.specs.declared.entry.Happened.{Happened}
 use Rattle.kernel_entries.specs.declared.entry.Happened.TheVariants.{Asked, Took}
-use Rattle.told_answers.specs.Told.{call_of}
-use Rattle.told_answers.proofs.Run.{apart-sym}
+use Rattle.language_links.specs.Told.{call_of}
+use Rattle.language_links.proofs.Run.{apart-sym}
 use Rattle.request_acts.specs.Acted.{process}
 
 pub own-call : (p : Pid) (c : Call) → call_of p (Asked p c) ≡ Some c

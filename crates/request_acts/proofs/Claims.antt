@@ -4,7 +4,7 @@ use Rattle.charlotte_calls.specs.Setting.{IsValid}
 use Rattle.charlotte_calls.specs.declared.setting.Setting.{Setting}
 use Rattle.kernel_entries.specs.Ranges.{IsPlacedInRange}
 use Rattle.kernel_entries.specs.declared.entry.Placed.{Placed}
-use Rattle.theorem.specs.Record.{IsLawfulRecord}
+use Rattle.language_links.specs.Record.{IsLawfulRecord}
 use Rattle.language_links.specs.Acting.{Program}
 use Rattle.request_acts.specs.Acted.{AreReplayed}
 use Rattle.request_acts.specs.Claimed.{ActsAreLinked, AreWired, HasLinks}

@@ -6,8 +6,8 @@ use Rattle.charlotte_calls.specs.declared.names.Pid.{Pid}
 use Rattle.kernel_entries.specs.Order.{of_kernel}
 use Rattle.kernel_entries.specs.declared.entry.Entry.{Entry}
 use Rattle.kernel_entries.specs.declared.entry.Placed.{Placed}
-use Rattle.program_runs.specs.Replay.{with_entry}
-use Rattle.told_answers.proofs.Run.{apart-sym}
+use Rattle.language_links.specs.Replay.{with_entry}
+use Rattle.language_links.proofs.Run.{apart-sym}
 use Rattle.language_links.specs.Acting.{Acting, Fleet, called, hears_entry, with_acting}
 use Rattle.request_acts.specs.Acted.{process}
 

@@ -7,9 +7,9 @@ use Rattle.kernel_entries.specs.Order.{of_kernel}
 use Rattle.kernel_entries.specs.declared.entry.Placed.{Placed}
 use Rattle.kernel_world.specs.Run.{IsRecord}
 use Rattle.kernel_world.specs.World.{Event}
-use Rattle.process_run.specs.Runs.{step}
-use Rattle.process_run.specs.States.{State, start_of}
-use Rattle.program_runs.specs.Replay.{ReplaysProgram}
+use Rattle.process_sound.specs.Runs.{step}
+use Rattle.process_sound.specs.States.{State, start_of}
+use Rattle.language_links.specs.Replay.{ReplaysProgram}
 use Rattle.language_links.specs.Acting.{Program}
 use Rattle.request_acts.specs.Acted.{AreActed, AreReplayed, home_of, process}
 use Rattle.request_acts.proofs.Acted.{acted}

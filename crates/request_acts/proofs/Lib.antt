@@ -11,3 +11,5 @@ pub mod Given
 pub mod Own
 pub mod Worked
 pub mod Claims
+pub use Rattle.process_sound.proofs.Every
+pub use Rattle.process_sound.proofs.Runs

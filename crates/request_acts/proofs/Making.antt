@@ -12,11 +12,11 @@ use Rattle.kernel_entries.specs.declared.entry.Entry.{Entry}
 use Rattle.kernel_entries.specs.declared.entry.Happened.{Happened}
 use Rattle.kernel_entries.specs.declared.entry.Happened.TheVariants.{Asked, Took}
 use Rattle.kernel_entries.specs.declared.entry.Placed.{Placed}
-use Rattle.process_run.specs.Runs.{step}
-use Rattle.process_run.specs.States.{State}
-use Rattle.program_runs.specs.Replay.{IsGiven, Replayed, Replays, with_entry, with_step}
-use Rattle.program_runs.specs.Replay as replay
-use Rattle.told_answers.specs.Told.{call_of}
+use Rattle.process_sound.specs.Runs.{step}
+use Rattle.process_sound.specs.States.{State}
+use Rattle.language_links.specs.Replay.{IsGiven, Replayed, Replays, with_entry, with_step}
+use Rattle.language_links.specs.Replay as replay
+use Rattle.language_links.specs.Told.{call_of}
 use Rattle.language_links.specs.Acting.{Acting, Acts, Calls, Done, Fleet, IsAsking, Pauses, Rests, Takes, called, deeds_before, done_by, hears_entry, paused, with_acting}
 use Rattle.request_acts.specs.Acted.{process}
 use Rattle.request_acts.proofs.Callers.{none-of, own-call}

@@ -5,8 +5,8 @@ use Rattle.charlotte_calls.specs.declared.calls.Answer.{Answer}
 use Rattle.charlotte_calls.specs.declared.calls.Call.{Call}
 use Rattle.charlotte_calls.specs.declared.names.Pid.{Pid}
 use Rattle.kernel_entries.specs.declared.entry.Placed.{Placed}
-use Rattle.program_runs.specs.Replay.{IsGiven}
-use Rattle.told_answers.specs.Told.{call_of}
+use Rattle.language_links.specs.Replay.{IsGiven}
+use Rattle.language_links.specs.Told.{call_of}
 use Rattle.language_links.specs.Acting.{Acting, Acts, Calls, Done, Fleet, IsAsking, IsPausing, Pauses, Rests, Takes, called, deeds_before, done_by, hears_entry, paused, with_acting}
 use Rattle.request_acts.specs.Acted.{process}
 use Rattle.request_acts.proofs.Callers.{none-else, one-caller}

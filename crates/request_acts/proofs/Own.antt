@@ -10,10 +10,10 @@ use Rattle.charlotte_calls.specs.declared.program.Next.{Next}
 use Rattle.charlotte_calls.specs.declared.program.Next.TheVariants as next
 use Rattle.charlotte_calls.specs.declared.setting.Setting.{Setting}
 use Rattle.kernel_entries.specs.declared.entry.Placed.{Placed}
-use Rattle.process_run.specs.Runs.{deeds, deeds_of as run_deeds, step}
-use Rattle.process_run.specs.States.{DeedOn}
-use Rattle.program_runs.specs.Replay.{IsNoCall}
-use Rattle.told_answers.specs.Told.{call_of}
+use Rattle.process_sound.specs.Runs.{deeds, deeds_of as run_deeds, step}
+use Rattle.process_sound.specs.States.{DeedOn}
+use Rattle.language_links.specs.Replay.{IsNoCall}
+use Rattle.language_links.specs.Told.{call_of}
 use Rattle.language_links.specs.Acting.{Acting, Acts, Calls, Done, Fleet, IsAsking, IsPausing, Pauses, Program, Rests, Takes, at_end, at_start, called, deeds_before, done_by, hears_entry, paused, with_acting}
 use Rattle.request_acts.specs.Acted.{AreActed, IsRunBy, asked_in, asked_of, calls_by, calls_of, deeds_by, home_of, process}
 use Rattle.request_acts.proofs.Callers.{none-else}

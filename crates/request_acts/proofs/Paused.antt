@@ -5,9 +5,9 @@ use Rattle.charlotte_calls.specs.declared.calls.Call.{Call}
 use Rattle.charlotte_calls.specs.declared.program.Next.{Next}
 use Rattle.charlotte_calls.specs.declared.program.Next.TheVariants as next
 use Rattle.kernel_entries.specs.declared.entry.Entry.{Entry}
-use Rattle.process_run.specs.Runs.{step}
-use Rattle.program_runs.specs.Replay.{IsGiven, IsNoCall}
-use Rattle.told_answers.specs.Told.{Answered, Heard, call_of}
+use Rattle.process_sound.specs.Runs.{step}
+use Rattle.language_links.specs.Replay.{IsGiven, IsNoCall}
+use Rattle.language_links.specs.Told.{Answered, Heard, call_of}
 use Rattle.language_links.specs.Acting.{Acting, IsAsking, IsPausing, paused}
 use Rattle.request_acts.specs.Acted.{process}
 use Rattle.request_acts.proofs.Fleets.{heard_by}

@@ -6,8 +6,8 @@ use Rattle.charlotte_calls.specs.declared.names.Pid.{Pid}
 use Rattle.charlotte_calls.specs.declared.program.Next.{Next}
 use Rattle.charlotte_calls.specs.declared.program.Next.TheVariants as next
 use Rattle.kernel_entries.specs.declared.entry.Entry.{Entry}
-use Rattle.program_runs.specs.Replay.{Asks, IsGiven, Passes, Pauses, Replayed, Replays, Rests, StepOf, with_entry}
-use Rattle.told_answers.specs.Told.{Answered, Heard, call_of, hears, hears_by}
+use Rattle.language_links.specs.Replay.{Asks, IsGiven, Passes, Pauses, Replayed, Replays, Rests, StepOf, with_entry}
+use Rattle.language_links.specs.Told.{Answered, Heard, call_of, hears, hears_by}
 
 -- what a step is given is the same before the entry and behind it
 pub given-stays : (p : Pid) (e : Entry) → call_of p e.what ≡ None → (last : Option Next) (h : Heard) (given : Option Answer) → IsGiven last h given → IsGiven last (hears p h e) given

@@ -28,10 +28,10 @@ use Rattle.end_protocol.specs.Going.{allows, due_call, sent}
 use Rattle.end_protocol.specs.Hearing.{accepted, is_readable}
 use Rattle.end_protocol.specs.Kept.{queued}
 use Rattle.end_protocol.specs.Wanting.{is_needed, taker}
-use Rattle.process_run.specs.States.{Module}
-use Rattle.process_run.specs.Runs.{settles}
-use Rattle.process_run.proofs.Modules.{came, end, entry, int, module_with, ok, op, reply, request}
-use Rattle.told_answers.specs.Told.{call_of}
+use Rattle.process_sound.specs.States.{Module}
+use Rattle.process_sound.specs.Runs.{settles}
+use Rattle.process_sound.proofs.Modules.{came, end, entry, int, module_with, ok, op, reply, request}
+use Rattle.language_links.specs.Told.{call_of}
 use Rattle.charlotte_calls.specs.EndEq.{end_eq}
 use Rattle.language_links.specs.Acting.{Acts, Calls, Done, Fleet, IsAsking, Program, Rests, at_start, called, deeds_before, done_by, hears_entry, with_acting}
 use Rattle.request_acts.specs.Acted.{process}

@@ -12,11 +12,11 @@ use Rattle.charlotte_calls.specs.declared.setting.Setting.{Setting}
 use Rattle.kernel_entries.specs.Order.{of_kernel}
 use Rattle.kernel_entries.specs.declared.entry.Placed.{Placed}
 use Rattle.kernel_step.specs.Start.{home}
-use Rattle.told_answers.specs.Told.{call_of}
-use Rattle.program_runs.specs.Replay.{ReplaysProgram}
+use Rattle.language_links.specs.Told.{call_of}
+use Rattle.language_links.specs.Replay.{ReplaysProgram}
 use Rattle.lynx_code.specs.declared.code.Code.{Code}
-use Rattle.process_run.specs.States.{DeedOn, State, module_of, start_of}
-use Rattle.process_run.specs.Runs.{deeds_of as run_deeds, step}
+use Rattle.process_sound.specs.States.{DeedOn, State, module_of, start_of}
+use Rattle.process_sound.specs.Runs.{deeds_of as run_deeds, step}
 use Rattle.language_links.specs.Acting.{Acts, Done, Fleet, Program, at_end, at_start}
 
 -- the process of this number, and its kernel

@@ -8,9 +8,9 @@ use Rattle.kernel_entries.specs.Ranges.{IsPlacedInRange}
 use Rattle.kernel_entries.specs.declared.entry.Placed.{Placed}
 use Rattle.service_step.specs.Run.{start_state, state_after}
 use Rattle.service_step.specs.declared.state.Place.TheVariants.{Owned}
-use Rattle.theorem.specs.Law.{joined}
-use Rattle.theorem.specs.Record.{IsLawfulRecord}
-use Rattle.process_run.specs.States.{start_of}
+use Rattle.language_links.specs.Law.{joined}
+use Rattle.language_links.specs.Record.{IsLawfulRecord}
+use Rattle.process_sound.specs.States.{start_of}
 use Rattle.process_sound.specs.Processes.{IsRunning}
 use Rattle.language_links.specs.Acting.{Program}
 use Rattle.language_links.specs.Claims.{AreCarried, AreInOrder, States}

@@ -1,2 +1,6 @@
 pub mod Acted
 pub mod Claimed
+pub use Rattle.process_sound.specs.Ends
+pub use Rattle.process_sound.specs.Packets
+pub use Rattle.process_sound.specs.Processes
+pub use Rattle.process_sound.specs.Told

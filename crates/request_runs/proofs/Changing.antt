@@ -15,7 +15,7 @@ use Rattle.end_protocol.specs.Kept.{fresh}
 use Rattle.end_protocol.specs.Lists.{is_nil}
 use Rattle.end_protocol.specs.Wanting.{is_busy, is_deaf}
 use Rattle.request_meaning.specs.Links.{MayHappen}
-use Rattle.process_run.specs.States.{Gone, Holding, Keeps}
+use Rattle.process_changes.specs.States.{Gone, Holding, Keeps}
 use Rattle.process_changes.specs.Changes.{IsWhole, MayDo}
 use Rattle.process_changes.specs.AtEnd.{ChangeAt, ChangesAt, Seen, held_count, total}
 use Rattle.process_changes.specs.AtEnd as at_end

@@ -21,9 +21,9 @@ use Rattle.end_protocol.specs.Hearing.{hears}
 use Rattle.end_protocol.specs.Lists.{tail}
 use Rattle.request_meaning.specs.Links.{MayHappen}
 use Rattle.end_protocol.specs.Wanting.{is_deaf}
-use Rattle.process_run.specs.States.{Asked, DeedOn, Gone, Holding, Keeps}
-use Rattle.process_run.specs.Ends.{number_of}
-use Rattle.process_run.specs.States as process
+use Rattle.process_changes.specs.States.{Asked, DeedOn, Gone, Holding, Keeps}
+use Rattle.process_changes.specs.Ends.{number_of}
+use Rattle.process_changes.specs.States as process
 use Rattle.process_changes.specs.Telling.{Brings, IsAnswer, IsDeathWith, IsReadable, IsTold, Kills, Turn}
 use Rattle.process_changes.specs.Ledgers.{Ledger}
 use Rattle.process_changes.specs.AtEnd.{IsToldAt, IsUntoldOf, Seen, ToldAt, deeds_at, held_count, holding_at, is_sent, known, known_from, known_holding, known_ledger, seen, total}

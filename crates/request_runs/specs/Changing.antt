@@ -3,7 +3,7 @@ use Rattle.std.specs.Prelude.{◌≡◌, ◌≤◌, ◌⊎◌, ℕ, false, List,
 use Rattle.end_protocol.specs.declared.messages.Message.{Message}
 use Rattle.end_protocol.specs.Deeds.{Deed}
 use Rattle.end_protocol.specs.Wanting.{is_deaf}
-use Rattle.process_run.specs.States.{Gone, Holding, Keeps}
+use Rattle.process_changes.specs.States.{Gone, Holding, Keeps}
 use Rattle.process_changes.specs.AtEnd.{Seen}
 use Rattle.request_runs.specs.Sides.{Courses, Destroyed, Free, Held, Lost, Pair, Standing}
 

@@ -4,3 +4,15 @@ pub mod Ways
 pub mod Changing
 pub mod Told
 pub mod Followed
+pub use Rattle.language_links.specs.Acting
+pub use Rattle.language_links.specs.Claims
+pub use Rattle.language_links.specs.Replay
+pub use Rattle.process_changes.specs.Asking
+pub use Rattle.process_changes.specs.AtEnd
+pub use Rattle.process_changes.specs.Changes
+pub use Rattle.process_changes.specs.Ends
+pub use Rattle.process_changes.specs.Ledgers
+pub use Rattle.process_changes.specs.Reports
+pub use Rattle.process_changes.specs.Runs
+pub use Rattle.process_changes.specs.States
+pub use Rattle.process_changes.specs.Telling

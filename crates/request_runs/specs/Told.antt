@@ -6,8 +6,8 @@ use Rattle.end_protocol.specs.declared.messages.Message.{Message}
 use Rattle.end_protocol.specs.Deeds.{Deed}
 use Rattle.end_protocol.specs.Lists.{tail}
 use Rattle.end_protocol.specs.Wanting.{is_deaf}
-use Rattle.process_run.specs.States.{DeedOn, Gone, Holding, Keeps}
-use Rattle.process_run.specs.Ends.{number_of}
+use Rattle.process_changes.specs.States.{DeedOn, Gone, Holding, Keeps}
+use Rattle.process_changes.specs.Ends.{number_of}
 use Rattle.process_changes.specs.Ledgers.{Ledger}
 use Rattle.process_changes.specs.Telling.{Turn}
 use Rattle.process_changes.specs.AtEnd.{IsToldAt, ToldAt, deeds_at, seen}

@@ -3,8 +3,8 @@ use Rattle.std.specs.Prelude.{ℕ, nat_eq, if◌then◌else◌, List, [], ◌∷
 use Rattle.charlotte_calls.specs.declared.calls.Answer.{Answer}
 use Rattle.charlotte_calls.specs.declared.calls.Call.{Call}
 use Rattle.charlotte_calls.specs.declared.calls.ServiceStep.{ServiceStep}
-use Rattle.told_answers.specs.Told.{later_told}
-use Rattle.language_links.specs.Acting.{Fleet}
+use Rattle.entry_steps.specs.Told.{later_told}
+use Rattle.request_runs.specs.Acting.{Fleet}
 use Rattle.request_acts.specs.Acted.{process}
 use Rattle.run_invariant.specs.Invariant.{Owners}
 use Rattle.run_invariant.specs.Owners.{Owner, Pends, Status, Told, owner_of}

@@ -24,12 +24,12 @@ use Rattle.lynx_packets.specs.Packets.{packet_of}
 use Rattle.end_protocol.specs.declared.kept.Receiving.TheVariants as receiving
 use Rattle.end_protocol.specs.declared.messages.Message.{Message}
 use Rattle.end_protocol.specs.Deeds.{Deed}
-use Rattle.process_run.specs.States.{Gone, Holding, Keeps}
-use Rattle.process_run.specs.States as asked
-use Rattle.process_run.specs.Ends.{number_of}
-use Rattle.process_changes.specs.AtEnd.{AreSingle, Seen, total}
-use Rattle.process_changes.specs.Telling.{IsTold, Turn}
-use Rattle.process_sound.specs.Processes.{IsRunning}
+use Rattle.request_runs.specs.States.{Gone, Holding, Keeps}
+use Rattle.request_runs.specs.States as asked
+use Rattle.request_runs.specs.Ends.{number_of}
+use Rattle.request_runs.specs.AtEnd.{AreSingle, Seen, total}
+use Rattle.request_runs.specs.Telling.{IsTold, Turn}
+use Rattle.request_acts.specs.Processes.{IsRunning}
 use Rattle.request_runs.specs.Sides.{Courses, Destroyed, Free, Held, Lost, Pair, Side, Standing, new_pair, new_side}
 use Rattle.request_acts.specs.Acted.{process}
 use Rattle.run_invariant.specs.Owners.{IsAskedFor, Owner, Status, destroying, given_of, phase_of, seen_of, turn_of}

@@ -10,14 +10,14 @@ use Rattle.charlotte_calls.specs.declared.program.Next.{Next}
 use Rattle.charlotte_calls.specs.declared.program.Next.TheVariants as next
 use Rattle.service_step.specs.declared.state.Phase.{Phase}
 use Rattle.service_step.specs.declared.state.Phase.TheVariants as phase
-use Rattle.told_answers.specs.Told.{Answered, Heard, NoCall, Pending}
-use Rattle.process_run.specs.States.{State}
-use Rattle.process_changes.specs.Asking.{IsCallOf}
-use Rattle.process_changes.specs.AtEnd.{Seen, known_ledger, seen}
-use Rattle.process_changes.specs.Ledgers.{Ledger, brought, ledger}
-use Rattle.process_changes.specs.Telling.{Turn}
-use Rattle.process_run.specs.States as process
-use Rattle.language_links.specs.Acting.{Acting}
+use Rattle.entry_steps.specs.Told.{Answered, Heard, NoCall, Pending}
+use Rattle.request_runs.specs.States.{State}
+use Rattle.request_runs.specs.Asking.{IsCallOf}
+use Rattle.request_runs.specs.AtEnd.{Seen, known_ledger, seen}
+use Rattle.request_runs.specs.Ledgers.{Ledger, brought, ledger}
+use Rattle.request_runs.specs.Telling.{Turn}
+use Rattle.request_runs.specs.States as process
+use Rattle.request_runs.specs.Acting.{Acting}
 
 pub data Status : Type 0 where
   -- it is at its start, or paused

@@ -13,8 +13,8 @@ use Rattle.service_step.specs.State.{State as Service}
 use Rattle.service_step.specs.declared.state.Place.TheVariants as place
 use Rattle.entry_steps.specs.Entries.{IsOwn}
 use Rattle.end_protocol.specs.Deeds.{Deed}
-use Rattle.process_run.specs.Runs.{Did}
-use Rattle.process_changes.specs.AtEnd.{deeds_at}
+use Rattle.request_runs.specs.Runs.{Did}
+use Rattle.request_runs.specs.AtEnd.{deeds_at}
 use Rattle.request_acts.specs.Acted.{process}
 use Rattle.run_invariant.specs.Hearing.{with_owner}
 use Rattle.run_invariant.specs.Invariant.{Owners, Stands}

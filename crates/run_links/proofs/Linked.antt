@@ -11,21 +11,21 @@ use Rattle.kernel_entries.specs.declared.entry.Entry.{Entry}
 use Rattle.kernel_entries.specs.declared.entry.Placed.{Placed}
 use Rattle.kernel_turns.specs.Nodes.{Meaning}
 use Rattle.kernel_turns.specs.declared.node.Node.{Node}
-use Rattle.kernel_worker.specs.Ends.{RanTogether, RunTogether}
-use Rattle.local_runs.specs.Local.{LocalEvent}
-use Rattle.node_runs.specs.Net.{AreNodes, AreUnspoiled, HaveMet, journals_of}
-use Rattle.node_start.specs.Homes.{programs_on}
+use Rattle.plan_run.specs.Ends.{RanTogether, RunTogether}
+use Rattle.kernel_turns.specs.Local.{LocalEvent}
+use Rattle.plan_run.specs.Net.{AreNodes, AreUnspoiled, HaveMet, journals_of}
+use Rattle.plan_run.specs.Homes.{programs_on}
 use Rattle.plan_run.proofs.Counting.{few-merged}
 use Rattle.plan_run.proofs.Journals.{merged-in_range}
 use Rattle.plan_run.proofs.Programs.{replayed}
 use Rattle.plan_run.specs.Run.{AreReplayed, IsRunOf}
 use Rattle.plan_run.specs.declared.run.Ran.{Ran}
-use Rattle.theorem.specs.Record.{IsLawfulRecord}
-use Rattle.process_run.specs.States.{State}
-use Rattle.language_links.specs.Acting.{Program}
-use Rattle.request_acts.proofs.Given.{given-acted}
-use Rattle.request_acts.specs.Acted.{AreActed}
-use Rattle.request_acts.specs.Claimed.{AreWired, HasLinks}
+use Rattle.plan_run.specs.Record.{IsLawfulRecord}
+use Rattle.lynx_load.specs.States.{State}
+use Rattle.carried_ends.specs.Acting.{Program}
+use Rattle.carried_ends.proofs.Given.{given-acted}
+use Rattle.carried_ends.specs.Acted.{AreActed}
+use Rattle.carried_ends.specs.Claimed.{AreWired, HasLinks}
 use Rattle.carried_ends.proofs.Whole.{acts-linked}
 use Rattle.run_links.specs.Linked.{AreLinkedNodes, BeginAs, meaning_by}
 

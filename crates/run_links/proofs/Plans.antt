@@ -14,9 +14,9 @@ use Rattle.lynx_outside.specs.Files.{IsWithin}
 use Rattle.lynx_outside.specs.Logged.{Read}
 use Rattle.plan_run.specs.Run.{IsRunOf}
 use Rattle.plan_run.specs.declared.run.Ran.{Ran}
-use Rattle.process_run.specs.States.{start_of}
-use Rattle.request_acts.specs.Acted.{programs_of}
-use Rattle.request_acts.specs.Claimed.{AreWired, HasLinks}
+use Rattle.lynx_load.specs.States.{start_of}
+use Rattle.carried_ends.specs.Acted.{programs_of}
+use Rattle.carried_ends.specs.Claimed.{AreWired, HasLinks}
 use Rattle.run_links.proofs.Linked.{of-run}
 use Rattle.run_links.proofs.Loaded.{loaded_sound}
 use Rattle.run_links.proofs.Starting.{plan_wired}

@@ -10,11 +10,11 @@ use Rattle.lynx_load.proofs.Starting.{ends_many}
 use Rattle.lynx_load.specs.Ends.{ends_from, ends_of, ends_of_each}
 use Rattle.lynx_load.specs.Loading.{Loading}
 use Rattle.lynx_load.specs.Started.{AreFit}
-use Rattle.process_run.specs.States.{start_of}
+use Rattle.lynx_load.specs.States.{start_of}
 use Rattle.process_sound.specs.Processes.{IsRunning}
 use Rattle.process_sound.proofs.Starts.{start_running}
-use Rattle.request_acts.specs.Acted.{process, programs_of}
-use Rattle.request_acts.specs.Claimed.{AreWired}
+use Rattle.carried_ends.specs.Acted.{process, programs_of}
+use Rattle.carried_ends.specs.Claimed.{AreWired}
 use Rattle.service_step.specs.Run.{start_state}
 use Rattle.service_step.specs.declared.state.Place.TheVariants.{Owned}
 use Rattle.run_links.proofs.Loaded.{IsSound}

@@ -19,7 +19,7 @@ use Rattle.service_step.specs.declared.state.End.{End}
 use Rattle.service_step.specs.declared.state.Place.TheVariants.{Owned}
 use Rattle.lynx_load.proofs.Wiring.{AreMade, keeps_made, made_more}
 use Rattle.lynx_load.specs.Ends.{Wire, ends_of, links_behind, made_for, maker, own_of, wired_behind}
-use Rattle.request_acts.specs.Acted.{process}
+use Rattle.carried_ends.specs.Acted.{process}
 
 -- the link of an end is made
 abbrev IsMade : Wired → EndId → Type 0

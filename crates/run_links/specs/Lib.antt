@@ -1,1 +1,4 @@
 pub mod Linked
+pub use Rattle.carried_ends.specs.Claimed
+pub use Rattle.kernel_turns.specs.Letters
+pub use Rattle.kernel_turns.specs.Nodes

@@ -4,13 +4,13 @@ use Rattle.charlotte_calls.specs.declared.program.Next.{Next}
 use Rattle.charlotte_calls.specs.declared.setting.Setting.{Setting}
 use Rattle.kernel_entries.specs.declared.entry.Placed.{Placed}
 use Rattle.kernel_turns.specs.Nodes.{Meaning}
-use Rattle.theorem.specs.Record.{IsLawfulRecord}
-use Rattle.process_run.specs.Runs.{step}
-use Rattle.process_run.specs.States.{State, start_of}
+use Rattle.plan_run.specs.Record.{IsLawfulRecord}
+use Rattle.lynx_load.specs.Runs.{step}
+use Rattle.lynx_load.specs.States.{State, start_of}
 use Rattle.lynx_rt.specs.Programs.{Program as Process}
-use Rattle.language_links.specs.Acting.{Program}
-use Rattle.request_acts.specs.Acted.{programs_of}
-use Rattle.request_acts.specs.Claimed.{HasLinks}
+use Rattle.carried_ends.specs.Acting.{Program}
+use Rattle.carried_ends.specs.Acted.{programs_of}
+use Rattle.carried_ends.specs.Claimed.{HasLinks}
 use Rattle.plan_run.specs.Run.{AreReplayed}
 use Rattle.lynx_load.specs.Ends.{ends_of_each}
 use Rattle.lynx_load.specs.Loading.{Loading}

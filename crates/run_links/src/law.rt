@@ -4,13 +4,13 @@ ghost use Rattle.charlotte_calls.specs.declared.setting.Setting.{Setting as ASet
 ghost use Rattle.kernel_entries.specs.Order.{IsMerge};
 ghost use Rattle.kernel_entries.specs.declared.entry.Placed.{Placed as APlaced};
 ghost use Rattle.kernel_turns.specs.declared.node.Node.{Node};
-ghost use Rattle.kernel_worker.specs.Ends.{RunTogether};
-ghost use Rattle.local_runs.specs.Local.{LocalEvent};
-ghost use Rattle.node_runs.specs.Net.{AreNodes, AreUnspoiled, HaveMet, journals_of};
-ghost use Rattle.node_start.specs.Homes.{programs_on};
+ghost use Rattle.plan_run.specs.Ends.{RunTogether};
+ghost use Rattle.kernel_turns.specs.Local.{LocalEvent};
+ghost use Rattle.plan_run.specs.Net.{AreNodes, AreUnspoiled, HaveMet, journals_of};
+ghost use Rattle.plan_run.specs.Homes.{programs_on};
 ghost use Rattle.plan_run.specs.Run.{IsRunOf};
 ghost use Rattle.plan_run.specs.declared.run.Ran.{Ran};
-ghost use Rattle.language_links.specs.Acting.{Program};
+ghost use Rattle.carried_ends.specs.Acting.{Program};
 ghost use Rattle.lynx_load.specs.Ends.{ends_of_each};
 ghost use Rattle.lynx_load.specs.Loading.{Loading, Loads};
 ghost use Rattle.lynx_load.specs.Started.{AreStarted};
@@ -18,7 +18,7 @@ ghost use Rattle.lynx_load.specs.declared.role.Role.{Role as ARole};
 ghost use Rattle.lynx_outside.specs.Files.{IsWithin};
 ghost use Rattle.lynx_outside.specs.Logged.{Read};
 ghost use Rattle.lynx_rt.specs.Programs.{Program as Process};
-ghost use Rattle.request_acts.specs.Claimed.{AreWired, HasLinks};
+ghost use Rattle.carried_ends.specs.Claimed.{AreWired, HasLinks};
 ghost use Rattle.run_links.specs.Linked.{AreLinkedNodes, BeginAs, plan_programs, processes, roles};
 
 use kernel_turns::Watch;

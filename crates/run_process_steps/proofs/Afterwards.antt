@@ -21,13 +21,13 @@ use Rattle.process_run.specs.States as process
 use Rattle.process_run.specs.Actions.{acts}
 use Rattle.process_run.specs.Ends.{held_of, number_of, place_at, with_holding}
 use Rattle.process_run.specs.Runs.{Asking, Did, asks_first, calls, finishes, first_due, goes_on, is_in_use, machine_run, most_actions, most_instructions, pauses, settles, slice, stopped, unless_over, waits, with_deeds}
-use Rattle.process_changes.specs.AtEnd.{Seen, held_count, holding_at, known_from, known_holding, seen, total}
-use Rattle.process_changes.specs.Changes.{AreLeft, IsHeld}
-use Rattle.process_changes.specs.Ledgers.{Ledger, carried_at, how_often, ledger}
-use Rattle.process_changes.specs.Telling.{ChangesByStep, IsAnswer, IsSilent, IsTold, IsUnheld, Telling, Turn}
-use Rattle.process_changes.specs.Telling as tells
-use Rattle.process_changes.proofs.Held.{here_so}
-use Rattle.process_changes.proofs.Numbers.{same_place}
+use Rattle.run_invariant.specs.AtEnd.{Seen, held_count, holding_at, known_from, known_holding, seen, total}
+use Rattle.run_invariant.specs.Changes.{AreLeft, IsHeld}
+use Rattle.run_invariant.specs.Ledgers.{Ledger, carried_at, how_often, ledger}
+use Rattle.run_invariant.specs.Telling.{ChangesByStep, IsAnswer, IsSilent, IsTold, IsUnheld, Telling, Turn}
+use Rattle.run_invariant.specs.Telling as tells
+use Rattle.run_invariant.proofs.Held.{here_so}
+use Rattle.run_invariant.proofs.Numbers.{same_place}
 use Rattle.run_invariant.specs.Owners.{destroying, seen_of}
 use Rattle.run_invariant.specs.Steps.{after_step, owner_after}
 use Rattle.run_process_steps.proofs.Heeding.{held_number}

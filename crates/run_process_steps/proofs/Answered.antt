@@ -18,14 +18,14 @@ use Rattle.service_step.specs.declared.state.Inward.TheVariants as inward
 use Rattle.service_step.specs.declared.state.Message.{Message as ToldMessage}
 use Rattle.service_streams.specs.Streams.{is_done, told_by}
 use Rattle.service_lawful.specs.Consistent.{way_eq}
-use Rattle.service_custody.specs.Deaths.{Cancels, IsGone, IsOn, Receives, Sends}
+use Rattle.run_invariant.specs.Deaths.{Cancels, IsGone, IsOn, Receives, Sends}
 use Rattle.end_protocol.specs.declared.kept.Kept.{Kept}
 use Rattle.process_run.specs.States.{Asked, Keeps, Place, State}
 use Rattle.process_run.specs.States as process
 use Rattle.process_run.specs.Ends.{place_at}
-use Rattle.process_changes.specs.Asking.{IsCallOf}
-use Rattle.process_changes.specs.Changes.{IsHeld}
-use Rattle.process_changes.specs.Telling.{Brings, IsTold, Turn}
+use Rattle.run_invariant.specs.Asking.{IsCallOf}
+use Rattle.run_invariant.specs.Changes.{IsHeld}
+use Rattle.run_invariant.specs.Telling.{Brings, IsTold, Turn}
 use Rattle.run_invariant.specs.Invariant.{IsReportTrue, IsToldTrue}
 use Rattle.run_invariant.specs.Owners.{Asks, IsAskedFor, Over, Pends, Runs, Status, Told, given_of}
 

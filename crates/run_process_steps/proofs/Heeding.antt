@@ -11,9 +11,9 @@ use Rattle.service_step.specs.State.{State as Service}
 use Rattle.service_step.specs.declared.state.Inward.TheVariants as inward
 use Rattle.service_step.specs.declared.state.Message.{Message as ToldMessage}
 use Rattle.service_step.specs.declared.state.Place.TheVariants as place
-use Rattle.service_custody.specs.Coming.{coming}
-use Rattle.service_custody.specs.Deaths.{IsGone}
-use Rattle.service_custody.specs.Moves.{brings}
+use Rattle.run_invariant.specs.Coming.{coming}
+use Rattle.run_invariant.specs.Deaths.{IsGone}
+use Rattle.run_invariant.specs.Moves.{brings}
 use Rattle.lynx_packets.specs.declared.packet.RtPacket.{RtPacket}
 use Rattle.lynx_packets.specs.Packets.{packet_of}
 use Rattle.end_protocol.specs.declared.kept.Kept.{Kept}
@@ -30,15 +30,15 @@ use Rattle.process_run.specs.States.{Asked, Gone, Holding, Keeps, Place as OwnPl
 use Rattle.process_run.specs.States as process
 use Rattle.process_run.specs.Ends.{number_of, place_at}
 use Rattle.process_run.specs.Reports.{holding_of}
-use Rattle.process_changes.specs.AtEnd.{IsUntold, Seen, ToldAt, held_count, holding_at, is_sent, known, known_holding, total}
-use Rattle.process_changes.specs.AtEnd as told
-use Rattle.process_changes.specs.Changes.{IsHeld}
-use Rattle.process_changes.specs.Telling.{Brings, IsAnswer, IsDeath, IsDeathWith, IsTold, Kills, Turn}
-use Rattle.process_changes.proofs.Numbers.{numbered}
-use Rattle.process_changes.proofs.ToldAt.{holding_known}
-use Rattle.request_runs.specs.Sides.{Courses, Destroyed, Free, Held, Lost, Pair, Standing}
-use Rattle.request_runs.specs.Told.{IsFirst, IsTrue, left}
-use Rattle.request_acts.specs.Acted.{process as pid}
+use Rattle.run_invariant.specs.AtEnd.{IsUntold, Seen, ToldAt, held_count, holding_at, is_sent, known, known_holding, total}
+use Rattle.run_invariant.specs.AtEnd as told
+use Rattle.run_invariant.specs.Changes.{IsHeld}
+use Rattle.run_invariant.specs.Telling.{Brings, IsAnswer, IsDeath, IsDeathWith, IsTold, Kills, Turn}
+use Rattle.run_invariant.proofs.Numbers.{numbered}
+use Rattle.run_invariant.proofs.ToldAt.{holding_known}
+use Rattle.run_invariant.specs.Sides.{Courses, Destroyed, Free, Held, Lost, Pair, Standing}
+use Rattle.run_invariant.specs.RequestRunsTold.{IsFirst, IsTrue, left}
+use Rattle.run_invariant.specs.Acted.{process as pid}
 use Rattle.run_invariant.specs.Invariant.{AreSpelled, HasReceive, IsOwned, IsReportTrue, IsSpelled, IsStandingIn, IsToldTrue, told_to}
 use Rattle.run_invariant.specs.Owners.{IsAskedFor, Owner, seen_of, turn_of}
 use Rattle.run_process_steps.proofs.Answered.{AnswerOf, AsksOn, answer_of, cancel_over, dead_so, death_silent, is_on, message, message_told, outward_silent, reported_so, told_or_brings}

@@ -8,12 +8,12 @@ use Rattle.end_protocol.specs.Happenings as happenings
 use Rattle.end_protocol.specs.Kept.{fresh}
 use Rattle.end_protocol.specs.Wanting.{is_busy, is_deaf}
 use Rattle.process_run.specs.States.{Gone, Holding, Keeps}
-use Rattle.process_changes.specs.Changes.{IsWhole}
-use Rattle.process_changes.specs.AtEnd.{ChangeAt, ChangesAt, Seen, held_count, total}
-use Rattle.process_changes.specs.AtEnd as at_end
-use Rattle.process_changes.proofs.AtEnd.{change_less}
-use Rattle.request_runs.proofs.Changing.{free_not_lost, may_happen, not_destroyed, not_lost, onward, receiving_done, receiving_settled, rests_deaf}
-use Rattle.request_runs.specs.Sides.{Courses, Destroyed, Does, Events, Free, Goes, Held, Holds, LetsGo, Loses, Lost, Pair, Rests, Side, Standing, did, stands}
+use Rattle.run_invariant.specs.Changes.{IsWhole}
+use Rattle.run_invariant.specs.AtEnd.{ChangeAt, ChangesAt, Seen, held_count, total}
+use Rattle.run_invariant.specs.AtEnd as at_end
+use Rattle.run_invariant.proofs.AtEnd.{change_less}
+use Rattle.run_invariant.proofs.Changing.{free_not_lost, may_happen, not_destroyed, not_lost, onward, receiving_done, receiving_settled, rests_deaf}
+use Rattle.run_invariant.specs.Sides.{Courses, Destroyed, Does, Events, Free, Goes, Held, Holds, LetsGo, Loses, Lost, Pair, Rests, Side, Standing, did, stands}
 use Rattle.end_protocol.specs.declared.kept.Receiving.{Receiving}
 use Rattle.end_protocol.specs.declared.kept.Receiving.TheVariants as receiving
 use Rattle.run_invariant.specs.Invariant.{IsStandingIn}

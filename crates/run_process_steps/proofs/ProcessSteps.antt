@@ -16,31 +16,31 @@ use Rattle.service_step.specs.State.{State as Service}
 use Rattle.service_step.specs.declared.state.Phase.TheVariants as phase
 use Rattle.service_step.specs.declared.state.Place.{Place}
 use Rattle.service_step.specs.declared.state.Place.TheVariants as place
-use Rattle.service_custody.specs.Deaths.{IsGone}
-use Rattle.service_custody.specs.Moves.{brings}
+use Rattle.run_invariant.specs.Deaths.{IsGone}
+use Rattle.run_invariant.specs.Moves.{brings}
 use Rattle.end_protocol.specs.Deeds.{Deed}
 use Rattle.process_run.specs.States.{Asked, Gone, Holding, Keeps, Place as OwnPlace, State}
 use Rattle.process_run.specs.States as process
 use Rattle.process_run.specs.Ends.{number_of, place_at}
 use Rattle.process_run.specs.Reports.{answered, holding_of}
 use Rattle.process_run.specs.Runs.{Did, did, ends, proceeds}
-use Rattle.process_sound.specs.Told.{IsTold}
-use Rattle.process_sound.proofs.Runs.{step_running}
-use Rattle.process_changes.specs.Asking.{IsAsking, IsCallOf}
-use Rattle.process_changes.specs.AtEnd.{AreSingle, Seen, deeds_at, held_count, holding_at, seen, total}
-use Rattle.process_changes.specs.Changes.{AreLeft}
-use Rattle.process_changes.specs.Ledgers.{how_often}
-use Rattle.process_changes.specs.Telling.{ChangesByStep}
-use Rattle.process_changes.proofs.Asking.{step_fits}
-use Rattle.process_changes.proofs.Numbers.{end_eq_self}
-use Rattle.request_runs.specs.Sides.{Courses, Destroyed, Flipped, Free, Goes, Held, Lost, Pair, Rests, Side, flipped, new_pair}
-use Rattle.request_acts.specs.Acted.{process as pid}
+use Rattle.run_invariant.specs.ProcessSoundTold.{IsTold}
+use Rattle.run_invariant.proofs.Runs.{step_running}
+use Rattle.run_invariant.specs.Asking.{IsAsking, IsCallOf}
+use Rattle.run_invariant.specs.AtEnd.{AreSingle, Seen, deeds_at, held_count, holding_at, seen, total}
+use Rattle.run_invariant.specs.Changes.{AreLeft}
+use Rattle.run_invariant.specs.Ledgers.{how_often}
+use Rattle.run_invariant.specs.Telling.{ChangesByStep}
+use Rattle.run_invariant.proofs.Asking.{step_fits}
+use Rattle.run_invariant.proofs.Numbers.{end_eq_self}
+use Rattle.run_invariant.specs.Sides.{Courses, Destroyed, Flipped, Free, Goes, Held, Lost, Pair, Rests, Side, flipped, new_pair}
+use Rattle.run_invariant.specs.Acted.{process as pid}
 use Rattle.run_invariant.specs.Hearing.{with_owner}
 use Rattle.run_invariant.specs.Invariant.{has_of, IsAlive, IsFollowedTo, IsInOnePlace, IsOwned, IsOwner, IsSide, IsSideAt, IsStandingIn, IsToldTrue, Owners, Stands, most_brought}
 use Rattle.run_invariant.specs.Owners.{Asks, IsAskedFor, Over, Owner, Pends, Runs, Status, Told, given_of, phase_of, seen_of}
 use Rattle.run_invariant.specs.Steps.{IsMine, IsStepped, MayStep, after_step, owner_after}
 use Rattle.run_process_steps.proofs.Afterwards.{slice_goes}
-use Rattle.request_runs.proofs.Changing.{onward}
+use Rattle.run_invariant.proofs.Changing.{onward}
 use Rattle.run_process_steps.proofs.Stepping.{changes, end_goes, few_after, last_less, less_now, middle_less, none_brought, nothing_elsewhere, there}
 
 -- ---- both ends of a link

@@ -13,34 +13,34 @@ use Rattle.service_step.specs.declared.state.Inward.TheVariants as inward
 use Rattle.service_step.specs.declared.state.Message.{Message as ToldMessage}
 use Rattle.service_step.specs.declared.state.Place.{Place}
 use Rattle.service_step.specs.declared.state.Place.TheVariants as place
-use Rattle.service_custody.specs.Coming.{AreMatched, coming}
-use Rattle.service_custody.specs.Deaths.{IsGone}
-use Rattle.service_custody.specs.Moves.{brings}
-use Rattle.service_custody.proofs.Coming.{deaf-nothing}
+use Rattle.run_invariant.specs.Coming.{AreMatched, coming}
+use Rattle.run_invariant.specs.Deaths.{IsGone}
+use Rattle.run_invariant.specs.Moves.{brings}
+use Rattle.run_invariant.proofs.Coming.{deaf-nothing}
 use Rattle.end_protocol.specs.declared.messages.Message.{Message}
 use Rattle.end_protocol.specs.Deeds.{Deed}
 use Rattle.process_run.specs.States.{DeedOn, Gone, Holding, Keeps}
 use Rattle.process_run.specs.Ends.{number_of}
 use Rattle.process_run.specs.Runs.{Did, did}
-use Rattle.process_sound.specs.Told.{IsTold}
-use Rattle.process_changes.specs.AtEnd.{AreAt, IsToldAt, Seen, deeds_at, held_count, holding_at, known_holding, seen, total}
-use Rattle.process_changes.specs.Changes.{Changes}
-use Rattle.process_changes.specs.Ledgers.{Ledger}
-use Rattle.process_changes.specs.Telling.{ChangesByStep, Telling, Turn}
-use Rattle.process_changes.proofs.AtEnd.{changes_at, changes_less, deeds_both}
-use Rattle.process_changes.proofs.Away.{all_away, told_away}
-use Rattle.process_changes.proofs.Growing.{places_grow}
-use Rattle.process_changes.proofs.Steps.{step_changes}
-use Rattle.process_changes.proofs.ToldAt.{holding_known, told_at}
-use Rattle.request_runs.specs.Sides.{Courses, Destroyed, Lost, Pair, Side, Standing}
-use Rattle.request_acts.specs.Acted.{process as pid}
+use Rattle.run_invariant.specs.ProcessSoundTold.{IsTold}
+use Rattle.run_invariant.specs.AtEnd.{AreAt, IsToldAt, Seen, deeds_at, held_count, holding_at, known_holding, seen, total}
+use Rattle.run_invariant.specs.Changes.{Changes}
+use Rattle.run_invariant.specs.Ledgers.{Ledger}
+use Rattle.run_invariant.specs.Telling.{ChangesByStep, Telling, Turn}
+use Rattle.run_invariant.proofs.AtEnd.{changes_at, changes_less, deeds_both}
+use Rattle.run_invariant.proofs.Away.{all_away, told_away}
+use Rattle.run_invariant.proofs.Growing.{places_grow}
+use Rattle.run_invariant.proofs.Steps.{step_changes}
+use Rattle.run_invariant.proofs.ToldAt.{holding_known, told_at}
+use Rattle.run_invariant.specs.Sides.{Courses, Destroyed, Lost, Pair, Side, Standing}
+use Rattle.run_invariant.specs.Acted.{process as pid}
 use Rattle.run_invariant.specs.Invariant.{has_of, AreSpelled, HasReceive, IsAlive, IsOwned, IsOwner, IsReceived, IsStandingIn, most_brought, told_to}
 use Rattle.run_invariant.specs.Owners.{destroying, Asks, Over, Owner, Pends, Runs, Status, Told, given_of, ledger_of, seen_of, turn_of}
 use Rattle.run_invariant.specs.Steps.{MayStep, after_step, owner_after}
 use Rattle.run_process_steps.proofs.Afterwards.{IsLast, received, step_last}
 use Rattle.run_process_steps.proofs.Heeding.{Heeded, IsHeard, heeds}
 use Rattle.run_process_steps.proofs.Telling.{tellings_lead}
-use Rattle.request_runs.proofs.Changing.{onward}
+use Rattle.run_invariant.proofs.Changing.{onward}
 use Rattle.run_process_steps.proofs.Leading.{Hears, Leads, changes_lead}
 
 -- ---- small things

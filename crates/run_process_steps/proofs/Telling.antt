@@ -22,14 +22,14 @@ use Rattle.end_protocol.specs.Lists.{tail}
 use Rattle.request_meaning.specs.Links.{MayHappen}
 use Rattle.process_run.specs.States.{Asked, Gone, Holding, Keeps}
 use Rattle.process_run.specs.States as process
-use Rattle.process_changes.specs.Telling.{Brings, IsAnswer, IsDeathWith, IsReadable, IsTold, Kills, Turn}
-use Rattle.process_changes.specs.AtEnd.{IsUntoldOf, ToldAt, is_sent, known}
-use Rattle.process_changes.specs.AtEnd as told
-use Rattle.request_runs.specs.Sides.{Destroyed, Dies, Does, Goes, Hears, Held, Loses, Lost, Pair, Passes, Rests, comes, did, hearing, stands}
-use Rattle.request_runs.specs.Told.{IsFirst, IsTrue, left}
+use Rattle.run_invariant.specs.Telling.{Brings, IsAnswer, IsDeathWith, IsReadable, IsTold, Kills, Turn}
+use Rattle.run_invariant.specs.AtEnd.{IsUntoldOf, ToldAt, is_sent, known}
+use Rattle.run_invariant.specs.AtEnd as told
+use Rattle.run_invariant.specs.Sides.{Destroyed, Dies, Does, Goes, Hears, Held, Loses, Lost, Pair, Passes, Rests, comes, did, hearing, stands}
+use Rattle.run_invariant.specs.RequestRunsTold.{IsFirst, IsTrue, left}
 use Rattle.run_process_steps.proofs.Heeding.{IsNow, IsThen, TellingLeads, ok_not_err}
-use Rattle.process_changes.proofs.ToldAt.{cancelled, died, received, sent_when, waited}
-use Rattle.request_runs.proofs.Changing.{not_destroyed}
+use Rattle.run_invariant.proofs.ToldAt.{cancelled, died, received, sent_when, waited}
+use Rattle.run_invariant.proofs.Changing.{not_destroyed}
 
 same_ok : (p q : RtPacket) → ◌≡◌ {A = Result RtPacket ℕ} (Ok p) (Ok q) → p ≡ q
 same_ok p q e = cc

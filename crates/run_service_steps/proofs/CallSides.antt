@@ -16,17 +16,17 @@ use Rattle.service_step.specs.State.{State as Service}
 use Rattle.service_step.specs.Steps.{IsServiceStep, step_number}
 use Rattle.service_step.specs.declared.state.Phase.TheVariants as phase
 use Rattle.service_step.specs.declared.state.Place.TheVariants as place
-use Rattle.service_custody.specs.Deaths.{AreDeathsTrue, AreReceives, IsGone}
-use Rattle.service_custody.specs.Moves.{Moves}
-use Rattle.service_custody.specs.Moves as moves
-use Rattle.service_custody.specs.Phases.{next_phase}
+use Rattle.run_invariant.specs.Deaths.{AreDeathsTrue, AreReceives, IsGone}
+use Rattle.run_invariant.specs.Moves.{Moves}
+use Rattle.run_invariant.specs.Moves as moves
+use Rattle.run_invariant.specs.Phases.{next_phase}
 use Rattle.end_protocol.specs.Deeds.{Deed}
-use Rattle.process_run.specs.Ends.{place_at}
-use Rattle.process_run.specs.Reports.{holding_of}
-use Rattle.process_run.specs.States.{Asked, Keeps, State}
-use Rattle.process_changes.specs.Asking.{IsCallOf}
-use Rattle.process_changes.specs.AtEnd.{AreSingle, Seen, held_count, is_sent}
-use Rattle.request_acts.specs.Acted.{process}
+use Rattle.run_invariant.specs.Ends.{place_at}
+use Rattle.run_invariant.specs.Reports.{holding_of}
+use Rattle.run_invariant.specs.States.{Asked, Keeps, State}
+use Rattle.run_invariant.specs.Asking.{IsCallOf}
+use Rattle.run_invariant.specs.AtEnd.{AreSingle, Seen, held_count, is_sent}
+use Rattle.run_invariant.specs.Acted.{process}
 use Rattle.run_invariant.specs.Invariant.{IsAlive, IsOwner, IsToldTrue, Owners, Stands, has_of, most_brought}
 use Rattle.run_invariant.specs.Owners.{Asks, IsAskedFor, Owner, Status, Told, phase_of, seen_of}
 use Rattle.run_service_steps.proofs.Callers.{has-one, own-next, own-takes, with}

@@ -21,24 +21,24 @@ use Rattle.service_step.specs.declared.state.Message.{Message as Sent}
 use Rattle.service_step.specs.declared.state.Place.TheVariants as place
 use Rattle.service_streams.specs.Streams.{messages, numbered, sent_by}
 use Rattle.service_streams.specs.Streams as streams
-use Rattle.service_custody.specs.Coming.{coming}
-use Rattle.service_custody.specs.Moves.{Moves, brings}
-use Rattle.service_custody.specs.Moves as moves
-use Rattle.told_answers.specs.Told.{own_told}
-use Rattle.entry_steps.specs.Entries.{IsOwn}
+use Rattle.run_invariant.specs.Coming.{coming}
+use Rattle.run_invariant.specs.Moves.{Moves, brings}
+use Rattle.run_invariant.specs.Moves as moves
+use Rattle.run_invariant.specs.Told.{own_told}
+use Rattle.run_invariant.specs.Entries.{IsOwn}
 use Rattle.lynx_packets.specs.Packets.{packet_of}
 use Rattle.end_protocol.specs.declared.kept.Kept.{Kept}
 use Rattle.end_protocol.specs.declared.messages.Message.{Message}
 use Rattle.end_protocol.specs.Deeds.{Deed}
 use Rattle.end_protocol.specs.Going.{enclosed, sent}
-use Rattle.process_run.specs.Ends.{number_of}
-use Rattle.process_run.specs.States.{Holding, Keeps}
-use Rattle.process_changes.specs.Asking.{IsCallOf, IsSending}
-use Rattle.process_changes.specs.AtEnd.{held_count}
-use Rattle.request_acts.specs.Acted.{process}
+use Rattle.run_invariant.specs.Ends.{number_of}
+use Rattle.run_invariant.specs.States.{Holding, Keeps}
+use Rattle.run_invariant.specs.Asking.{IsCallOf, IsSending}
+use Rattle.run_invariant.specs.AtEnd.{held_count}
+use Rattle.run_invariant.specs.Acted.{process}
 use Rattle.request_meaning.specs.Links.{enclosing}
-use Rattle.request_runs.specs.Sides.{Free, Held, Lost, Side, new_pair, sending}
-use Rattle.request_runs.specs.Sides as events
+use Rattle.run_invariant.specs.Sides.{Free, Held, Lost, Side, new_pair, sending}
+use Rattle.run_invariant.specs.Sides as events
 use Rattle.run_invariant.specs.Hearing.{told_of, with_owner}
 use Rattle.run_invariant.specs.Invariant.{AreSpelled, HasReceive, IsFollowedTo, IsInOnePlace, IsOwned, IsOwner, IsSide, IsSideAt, IsStandingIn, IsToldTrue, Owners, Stands, told_to}
 use Rattle.run_invariant.specs.Owners.{Asks, IsAskedFor, Owner, Status, Told, given_of, seen_of, turn_of}

@@ -16,17 +16,17 @@ use Rattle.service_step.specs.Ends.{end_eq}
 use Rattle.service_step.specs.State.{State as Service}
 use Rattle.service_step.specs.Steps.{IsServiceStep, step_number}
 use Rattle.service_step.specs.declared.state.Place.TheVariants as place
-use Rattle.service_custody.specs.Moves.{gives}
+use Rattle.run_invariant.specs.Moves.{gives}
 use Rattle.end_protocol.specs.declared.kept.Kept.{Kept}
-use Rattle.process_run.specs.Ends.{number_of, place_at}
-use Rattle.process_run.specs.Reports.{holding_of}
-use Rattle.process_run.specs.States.{Asked, Holding, Keeps, State}
-use Rattle.process_run.specs.States as asked_states
-use Rattle.process_changes.specs.Asking.{IsCallOf}
-use Rattle.process_changes.specs.AtEnd.{AreSingle, Seen, held_count, is_sent, total}
-use Rattle.process_changes.specs.Changes.{IsHeld}
-use Rattle.process_changes.specs.Ledgers.{brought, how_often}
-use Rattle.request_acts.specs.Acted.{process}
+use Rattle.run_invariant.specs.Ends.{number_of, place_at}
+use Rattle.run_invariant.specs.Reports.{holding_of}
+use Rattle.run_invariant.specs.States.{Asked, Holding, Keeps, State}
+use Rattle.run_invariant.specs.States as asked_states
+use Rattle.run_invariant.specs.Asking.{IsCallOf}
+use Rattle.run_invariant.specs.AtEnd.{AreSingle, Seen, held_count, is_sent, total}
+use Rattle.run_invariant.specs.Changes.{IsHeld}
+use Rattle.run_invariant.specs.Ledgers.{brought, how_often}
+use Rattle.run_invariant.specs.Acted.{process}
 use Rattle.run_invariant.specs.Invariant.{HasReceive, IsAlive, has_of, told_to}
 use Rattle.run_invariant.specs.Owners.{Asks, Owner, Pends, Status, Told, destroying, given_of, seen_of, turn_of}
 use Rattle.run_service_steps.proofs.Born.{born-apart, born-now, born-was}

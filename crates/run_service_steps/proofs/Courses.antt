@@ -5,11 +5,11 @@ use Rattle.charlotte_calls.specs.Names.{opposite}
 use Rattle.charlotte_calls.specs.declared.names.EndId.{EndId}
 use Rattle.service_change.proofs.EndEq.{opposite-opposite}
 use Rattle.service_step.specs.State.{State as Service}
-use Rattle.service_custody.specs.Deaths.{IsGone}
+use Rattle.run_invariant.specs.Deaths.{IsGone}
 use Rattle.end_protocol.specs.declared.messages.Message.{Message}
 use Rattle.end_protocol.specs.Deeds.{Deed}
-use Rattle.request_runs.specs.Sides.{Courses, Destroyed, Pair, Side, Standing, comes, flipped, new_pair, stands}
-use Rattle.request_runs.specs.Sides as events
+use Rattle.run_invariant.specs.Sides.{Courses, Destroyed, Pair, Side, Standing, comes, flipped, new_pair, stands}
+use Rattle.run_invariant.specs.Sides as events
 use Rattle.run_invariant.specs.Invariant.{IsFollowedTo, IsSide, IsSideAt, Owners}
 
 -- where it is destroyed, an end stands so, and only the first of what was coming comes, where the opposite is

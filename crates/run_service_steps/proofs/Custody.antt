@@ -8,9 +8,9 @@ use Rattle.charlotte_calls.specs.declared.names.Pid.{Pid}
 use Rattle.service_step.specs.State.{State as Service}
 use Rattle.service_step.specs.declared.state.Place.TheVariants as place
 use Rattle.service_change.proofs.Counts.{pid_tells}
-use Rattle.service_custody.specs.Moves.{Moves, brings, gives}
-use Rattle.service_custody.specs.Moves as moves
-use Rattle.request_acts.specs.Acted.{process}
+use Rattle.run_invariant.specs.Moves.{Moves, brings, gives}
+use Rattle.run_invariant.specs.Moves as moves
+use Rattle.run_invariant.specs.Acted.{process}
 use Rattle.run_service_steps.proofs.StepFacts.{stays-less}
 use Rattle.run_invariant.specs.Invariant.{IsInOnePlace, has_of}
 use Rattle.run_invariant.specs.Owners.{Owner}

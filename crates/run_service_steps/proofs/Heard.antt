@@ -18,12 +18,12 @@ use Rattle.service_step.specs.State.{State as Service}
 use Rattle.service_step.specs.Steps.{IsServiceStep}
 use Rattle.service_step.specs.declared.state.Phase.{Phase}
 use Rattle.service_step.specs.declared.state.Phase.TheVariants as phase
-use Rattle.service_custody.specs.Moves.{given_to}
-use Rattle.service_custody.specs.Phases.{next_phase, turned_by, unless_answered}
-use Rattle.told_answers.specs.Told.{cancel_in, or_else, report_in}
-use Rattle.entry_steps.specs.Entries.{IsUncalled}
+use Rattle.run_invariant.specs.Moves.{given_to}
+use Rattle.run_invariant.specs.Phases.{next_phase, turned_by, unless_answered}
+use Rattle.run_invariant.specs.Told.{cancel_in, or_else, report_in}
+use Rattle.run_invariant.specs.Entries.{IsUncalled}
 use Rattle.end_table.specs.Place.{end_eq}
-use Rattle.request_acts.specs.Acted.{process}
+use Rattle.run_invariant.specs.Acted.{process}
 use Rattle.run_invariant.specs.Hearing.{hears_step, told_of}
 use Rattle.run_invariant.specs.Owners.{Asks, Over, Pends, Runs, Status, Told, phase_of}
 use Rattle.run_service_steps.proofs.StepFacts.{waited}

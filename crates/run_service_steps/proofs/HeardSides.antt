@@ -13,13 +13,13 @@ use Rattle.service_change.proofs.Counts.{pid_tells}
 use Rattle.service_lawful.specs.Consistent.{IsConsistent}
 use Rattle.service_step.specs.State.{State as Service}
 use Rattle.service_step.specs.Steps.{IsServiceStep}
-use Rattle.service_custody.specs.Moves.{enclosed_in, gives, how_often}
-use Rattle.entry_steps.specs.Entries.{IsUncalled}
-use Rattle.process_run.specs.States.{Asked, Gone, Holding, Keeps, State}
-use Rattle.process_run.specs.States as process_states
-use Rattle.process_changes.specs.AtEnd.{is_sent, total}
-use Rattle.process_changes.specs.Ledgers.{brought}
-use Rattle.request_acts.specs.Acted.{process}
+use Rattle.run_invariant.specs.Moves.{enclosed_in, gives, how_often}
+use Rattle.run_invariant.specs.Entries.{IsUncalled}
+use Rattle.run_invariant.specs.States.{Asked, Gone, Holding, Keeps, State}
+use Rattle.run_invariant.specs.States as process_states
+use Rattle.run_invariant.specs.AtEnd.{is_sent, total}
+use Rattle.run_invariant.specs.Ledgers.{brought}
+use Rattle.run_invariant.specs.Acted.{process}
 use Rattle.run_invariant.specs.Invariant.{HasReceive, has_of, told_to}
 use Rattle.run_invariant.specs.Owners.{IsAskedFor, Owner, Pends, Status, Told, destroying, given_of, seen_of, turn_of}
 use Rattle.run_service_steps.proofs.Custody.{Takes}

@@ -7,10 +7,10 @@ use Rattle.service_step.specs.State.{State}
 use Rattle.service_step.specs.Steps.{IsServiceStep}
 use Rattle.service_lawful.specs.Consistent.{IsConsistent}
 use Rattle.service_streams.specs.Streams.{cancels_send}
-use Rattle.service_custody.specs.Coming.{AreMatched, ComesSo}
-use Rattle.service_custody.specs.Deaths.{AreDeathsTrue, AreReceives}
-use Rattle.service_custody.specs.Moves.{Moves}
-use Rattle.service_custody.specs.Phases.{ArePhases}
+use Rattle.run_invariant.specs.Coming.{AreMatched, ComesSo}
+use Rattle.run_invariant.specs.Deaths.{AreDeathsTrue, AreReceives}
+use Rattle.run_invariant.specs.Moves.{Moves}
+use Rattle.run_invariant.specs.Phases.{ArePhases}
 
 pub record Laws : Type 0 where
   pub matches_stay : (s : State) (made : ServiceStep) (t : State) → IsConsistent s → AreMatched s → IsServiceStep s made t → AreMatched t

@@ -19,13 +19,13 @@ use Rattle.service_step.specs.declared.state.Phase.TheVariants as phase
 use Rattle.service_step.specs.declared.state.Place.{Place}
 use Rattle.service_step.specs.declared.state.Place.TheVariants as place
 use Rattle.service_streams.specs.Streams.{cancels_send}
-use Rattle.service_custody.specs.Moves.{given_to}
-use Rattle.service_custody.specs.Phases.{next_phase, turned_by, unless_answered}
-use Rattle.told_answers.specs.Told.{cancel_in, own_told, report_in}
-use Rattle.entry_steps.specs.Entries.{IsOwn}
-use Rattle.process_run.specs.States.{State}
-use Rattle.process_changes.specs.Asking.{IsCallOf}
-use Rattle.request_acts.specs.Acted.{process}
+use Rattle.run_invariant.specs.Moves.{given_to}
+use Rattle.run_invariant.specs.Phases.{next_phase, turned_by, unless_answered}
+use Rattle.run_invariant.specs.Told.{cancel_in, own_told, report_in}
+use Rattle.run_invariant.specs.Entries.{IsOwn}
+use Rattle.run_invariant.specs.States.{State}
+use Rattle.run_invariant.specs.Asking.{IsCallOf}
+use Rattle.run_invariant.specs.Acted.{process}
 use Rattle.run_invariant.specs.Hearing.{told_of}
 use Rattle.run_invariant.specs.Owners.{IsAskedFor, Pends, Status, Told, phase_of}
 

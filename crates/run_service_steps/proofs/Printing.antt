@@ -9,14 +9,14 @@ use Rattle.service_change.proofs.Counts.{pid_tells}
 use Rattle.service_step.specs.State.{State as Service}
 use Rattle.service_step.specs.declared.state.Place.{Place}
 use Rattle.service_step.specs.declared.state.Place.TheVariants as place
-use Rattle.service_custody.specs.Moves.{brings}
+use Rattle.run_invariant.specs.Moves.{brings}
 use Rattle.end_protocol.specs.Deeds.{Deed}
-use Rattle.process_run.specs.Ends.{number_of}
-use Rattle.process_run.specs.States.{Asked, Holding, State}
-use Rattle.process_changes.specs.Asking.{IsCallOf}
-use Rattle.process_changes.specs.AtEnd.{is_sent, total}
-use Rattle.request_acts.specs.Acted.{process}
-use Rattle.request_runs.specs.Sides.{Lost, Side}
+use Rattle.run_invariant.specs.Ends.{number_of}
+use Rattle.run_invariant.specs.States.{Asked, Holding, State}
+use Rattle.run_invariant.specs.Asking.{IsCallOf}
+use Rattle.run_invariant.specs.AtEnd.{is_sent, total}
+use Rattle.run_invariant.specs.Acted.{process}
+use Rattle.run_invariant.specs.Sides.{Lost, Side}
 use Rattle.run_invariant.specs.Hearing.{with_owner}
 use Rattle.run_invariant.specs.Invariant.{HasReceive, IsFollowedTo, IsInOnePlace, IsOwned, IsOwner, IsSideAt, IsStandingIn, Owners, Stands, has_of, most_brought}
 use Rattle.run_invariant.specs.Owners.{Asks, IsAskedFor, Owner, Told, seen_of, turn_of}

@@ -11,13 +11,13 @@ use Rattle.lynx_packets.specs.Packets.{packet_of}
 use Rattle.lynx_packets.specs.Spelling.{number_text, spelling, value_text, values_text}
 use Rattle.lynx_packets.proofs.Decoding.{reads_spelling}
 use Rattle.end_protocol.specs.declared.messages.Message.{Message}
-use Rattle.process_run.specs.Ends.{place_at}
-use Rattle.process_run.specs.States.{Keeps, Place, State}
-use Rattle.process_changes.specs.Asking.{IsSending}
-use Rattle.process_sound.specs.Ends.{IsHolding}
-use Rattle.process_sound.specs.Packets.{AreOfBytes, IsOfBytes, MaySend}
-use Rattle.process_sound.specs.Processes.{IsRunning}
-use Rattle.process_sound.proofs.Every.{every_at}
+use Rattle.run_invariant.specs.Ends.{place_at}
+use Rattle.run_invariant.specs.States.{Keeps, Place, State}
+use Rattle.run_invariant.specs.Asking.{IsSending}
+use Rattle.run_invariant.specs.ProcessSoundEnds.{IsHolding}
+use Rattle.run_invariant.specs.Packets.{AreOfBytes, IsOfBytes, MaySend}
+use Rattle.run_invariant.specs.Processes.{IsRunning}
+use Rattle.run_invariant.proofs.Every.{every_at}
 
 -- ---- bytes
 

@@ -2,11 +2,11 @@
 use Rattle.std.proofs.Common.{◌≡◌, ℕ, ◌+◌, Bool, false, if◌then◌else◌, None, List, [], ◌∷◌, refl, sym, ap, ap₂, ◌∙◌, arith}
 use Rattle.charlotte_calls.specs.declared.names.EndId.{EndId}
 use Rattle.end_protocol.specs.Going.{sent}
-use Rattle.process_run.specs.States.{Asked, Gone, Holding, Keeps, Place}
-use Rattle.process_run.specs.States as process
-use Rattle.process_changes.specs.AtEnd.{Seen, is_sent, known_from, known_holding, seen, total}
-use Rattle.process_changes.specs.Ledgers.{brought, carried_at, how_often}
-use Rattle.process_changes.specs.Telling.{Turn}
+use Rattle.run_invariant.specs.States.{Asked, Gone, Holding, Keeps, Place}
+use Rattle.run_invariant.specs.States as process
+use Rattle.run_invariant.specs.AtEnd.{Seen, is_sent, known_from, known_holding, seen, total}
+use Rattle.run_invariant.specs.Ledgers.{brought, carried_at, how_often}
+use Rattle.run_invariant.specs.Telling.{Turn}
 use Rattle.run_invariant.specs.Owners.{Owner, Status, given_of, ledger_of, seen_of, turn_of}
 
 pub unanswered : (asked : Asked) (n : ℕ) → is_sent asked None n ≡ false

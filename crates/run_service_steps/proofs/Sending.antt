@@ -12,14 +12,14 @@ use Rattle.end_protocol.specs.Falling.{outstanding_ends, reply_ends, request_end
 use Rattle.end_protocol.specs.Going.{enclosed, sent}
 use Rattle.end_protocol.specs.Lists.{tail}
 use Rattle.end_protocol.specs.Messages.{most_of}
-use Rattle.process_run.specs.Ends.{number_from, number_of, or_number, place_at}
-use Rattle.process_run.specs.Reports.{holding_of}
-use Rattle.process_run.specs.States.{Asked, Gone, Holding, Keeps, Place, State}
-use Rattle.process_run.specs.States as process
-use Rattle.process_changes.specs.Asking.{IsSending}
-use Rattle.process_changes.specs.AtEnd.{AreSingle, Seen, held_count, holding_at, is_sent, known_from, known_holding, seen, total}
-use Rattle.process_changes.specs.Ledgers.{carried, carried_at, carried_in, how_often}
-use Rattle.process_changes.specs.Telling.{Turn}
+use Rattle.run_invariant.specs.Ends.{number_from, number_of, or_number, place_at}
+use Rattle.run_invariant.specs.Reports.{holding_of}
+use Rattle.run_invariant.specs.States.{Asked, Gone, Holding, Keeps, Place, State}
+use Rattle.run_invariant.specs.States as process
+use Rattle.run_invariant.specs.Asking.{IsSending}
+use Rattle.run_invariant.specs.AtEnd.{AreSingle, Seen, held_count, holding_at, is_sent, known_from, known_holding, seen, total}
+use Rattle.run_invariant.specs.Ledgers.{carried, carried_at, carried_in, how_often}
+use Rattle.run_invariant.specs.Telling.{Turn}
 use Rattle.run_invariant.specs.Owners.{Asks, Owner, Told, ledger_of, seen_of}
 use Rattle.run_service_steps.proofs.Owning.{other-pid, same-pid}
 use Rattle.run_service_steps.proofs.Seen.{seen-so, unanswered}

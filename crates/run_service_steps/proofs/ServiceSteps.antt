@@ -12,13 +12,13 @@ use Rattle.service_step.specs.Steps.{IsServiceStep}
 use Rattle.service_step.specs.declared.state.Place.TheVariants as place
 use Rattle.service_streams.specs.Streams.{cancels_send, messages}
 use Rattle.service_streams.specs.Streams as streams
-use Rattle.service_custody.specs.Deaths.{AreReceives}
-use Rattle.service_custody.specs.Moves.{Moves}
-use Rattle.service_custody.specs.Moves as moves
-use Rattle.entry_steps.specs.Entries.{IsUncalled}
+use Rattle.run_invariant.specs.Deaths.{AreReceives}
+use Rattle.run_invariant.specs.Moves.{Moves}
+use Rattle.run_invariant.specs.Moves as moves
+use Rattle.run_invariant.specs.Entries.{IsUncalled}
 use Rattle.end_protocol.specs.Deeds.{Deed}
-use Rattle.request_acts.specs.Acted.{process}
-use Rattle.request_runs.specs.Sides.{Side}
+use Rattle.run_invariant.specs.Acted.{process}
+use Rattle.run_invariant.specs.Sides.{Side}
 use Rattle.run_invariant.specs.Hearing.{all_hear, hears_step, with_owner}
 use Rattle.run_invariant.specs.Invariant.{AreSpelled, IsFollowedTo, IsInOnePlace, IsOwner, IsSide, IsToldTrue, Owners, Stands, most_brought}
 use Rattle.run_invariant.specs.Owners.{Asks, Over, Pends, Runs, Status, Told}

@@ -24,16 +24,16 @@ use Rattle.service_step.specs.declared.state.Message.{Message as Told}
 use Rattle.service_step.specs.declared.state.Place.{Place}
 use Rattle.service_step.specs.declared.state.Place.TheVariants as place
 use Rattle.service_streams.specs.Streams.{given_by, messages, outstanding, sent_by, told_by, told_in}
-use Rattle.service_custody.specs.Coming.{ComesSo, coming, reported_to}
-use Rattle.service_custody.specs.Deaths.{AreReceives, IsGone}
-use Rattle.service_custody.specs.Moves.{Moves, brings, gives, given_to}
-use Rattle.service_custody.specs.Moves as moves
+use Rattle.run_invariant.specs.Coming.{ComesSo, coming, reported_to}
+use Rattle.run_invariant.specs.Deaths.{AreReceives, IsGone}
+use Rattle.run_invariant.specs.Moves.{Moves, brings, gives, given_to}
+use Rattle.run_invariant.specs.Moves as moves
 use Rattle.end_protocol.specs.declared.messages.Message.{Message}
-use Rattle.process_run.specs.Ends.{number_of}
-use Rattle.process_run.specs.States.{Gone, Holding, Keeps}
-use Rattle.process_changes.specs.AtEnd.{Seen, held_count}
-use Rattle.request_acts.specs.Acted.{process}
-use Rattle.request_runs.specs.Sides.{Destroyed, Free, Lost, Side, Standing, new_side}
+use Rattle.run_invariant.specs.Ends.{number_of}
+use Rattle.run_invariant.specs.States.{Gone, Holding, Keeps}
+use Rattle.run_invariant.specs.AtEnd.{Seen, held_count}
+use Rattle.run_invariant.specs.Acted.{process}
+use Rattle.run_invariant.specs.Sides.{Destroyed, Free, Lost, Side, Standing, new_side}
 use Rattle.run_invariant.specs.Invariant.{AreSpelled, HasReceive, IsInOnePlace, IsOwned, IsReceived, IsReportTrue, IsSide, IsSideAt, IsStandingIn, IsToldTrue, Owners, told_to}
 use Rattle.run_invariant.specs.Owners.{Asks, Over, Owner, Pends, Runs, Status, given_of, seen_of, turn_of}
 use Rattle.run_invariant.specs.Owners as owners

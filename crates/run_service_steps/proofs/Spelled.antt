@@ -7,9 +7,9 @@ use Rattle.charlotte_calls.specs.declared.names.EndId.{EndId}
 use Rattle.service_step.specs.State.{State as Service}
 use Rattle.service_step.specs.declared.state.Message.{Message as Told}
 use Rattle.service_streams.specs.Streams.{given_by, messages, sent_by, told_in}
-use Rattle.service_custody.specs.Coming.{ComesSo, coming}
-use Rattle.service_custody.specs.Coming as comes
-use Rattle.service_custody.specs.Deaths.{IsGone}
+use Rattle.run_invariant.specs.Coming.{ComesSo, coming}
+use Rattle.run_invariant.specs.Coming as comes
+use Rattle.run_invariant.specs.Deaths.{IsGone}
 use Rattle.end_protocol.specs.declared.messages.Message.{Message}
 use Rattle.run_invariant.specs.Invariant.{AreSpelled}
 

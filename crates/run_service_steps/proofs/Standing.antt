@@ -9,12 +9,12 @@ use Rattle.service_step.specs.State.{State as Service}
 use Rattle.service_step.specs.Steps.{IsServiceStep}
 use Rattle.service_step.specs.declared.state.Place.TheVariants as place
 use Rattle.service_streams.specs.Streams.{cancels_send}
-use Rattle.service_custody.specs.Moves.{Moves}
-use Rattle.service_custody.specs.Phases.{ArePhases, next_phase}
+use Rattle.run_invariant.specs.Moves.{Moves}
+use Rattle.run_invariant.specs.Phases.{ArePhases, next_phase}
 use Rattle.end_protocol.specs.declared.messages.Message.{Message}
 use Rattle.end_protocol.specs.Deeds.{Deed}
-use Rattle.request_acts.specs.Acted.{process}
-use Rattle.request_runs.specs.Sides.{Side}
+use Rattle.run_invariant.specs.Acted.{process}
+use Rattle.run_invariant.specs.Sides.{Side}
 use Rattle.run_invariant.specs.Invariant.{AreOwners, IsAlive, IsInOnePlace, IsOwner, IsToldTrue, Owners, Stands, most_brought}
 use Rattle.run_invariant.specs.Owners.{IsAskedFor, Owner, Status, phase_of}
 use Rattle.run_service_steps.proofs.Courses.{Turned}

@@ -23,8 +23,8 @@ use Rattle.service_step.specs.declared.state.Place.{Place}
 use Rattle.service_step.specs.declared.state.Place.TheVariants as place
 use Rattle.service_streams.proofs.Places.{oldest-first, oldest-there}
 use Rattle.service_streams.specs.Streams.{cancels_send, given_by, is_done, sent_by, told_by, told_in}
-use Rattle.service_custody.specs.Moves.{brings, enclosed_in, gives, how_often}
-use Rattle.entry_steps.specs.Entries.{IsUncalled}
+use Rattle.run_invariant.specs.Moves.{brings, enclosed_in, gives, how_often}
+use Rattle.run_invariant.specs.Entries.{IsUncalled}
 
 -- ---- what stays
 

@@ -22,12 +22,12 @@ use Rattle.service_step.specs.declared.state.Inward.TheVariants as inward
 use Rattle.service_step.specs.declared.state.Place.{Place}
 use Rattle.service_step.specs.declared.state.Place.TheVariants as place
 use Rattle.service_streams.proofs.Places.{gone-stays}
-use Rattle.service_custody.specs.Deaths.{AreDeathsTrue, AreReceives, IsGone, IsOn}
-use Rattle.service_custody.specs.Deaths as deaths
-use Rattle.service_custody.specs.Moves.{Moves}
-use Rattle.service_custody.specs.Moves as moves
-use Rattle.told_answers.specs.Told.{cancel_in}
-use Rattle.request_acts.specs.Acted.{process}
+use Rattle.run_invariant.specs.Deaths.{AreDeathsTrue, AreReceives, IsGone, IsOn}
+use Rattle.run_invariant.specs.Deaths as deaths
+use Rattle.run_invariant.specs.Moves.{Moves}
+use Rattle.run_invariant.specs.Moves as moves
+use Rattle.run_invariant.specs.Told.{cancel_in}
+use Rattle.run_invariant.specs.Acted.{process}
 use Rattle.run_invariant.specs.Invariant.{IsReportTrue, IsToldTrue}
 use Rattle.run_invariant.specs.Owners.{Asks, Over, Pends, Runs, Status, Told}
 use Rattle.run_service_steps.proofs.Heard.{Hears, IsCancelAnswer}

@@ -29,20 +29,20 @@ use Rattle.service_step.specs.State.{State}
 use Rattle.service_runs.proofs.Lawful.{runs_are_lawful}
 use Rattle.service_lawful.proofs.Turned.{turned}
 use Rattle.theorem.proofs.Takings.{takes-goes}
-use Rattle.theorem_call_begin.proofs.Makes.{make-goes}
-use Rattle.theorem_call_begin.proofs.Receives.{receive-goes}
+use Rattle.theorem_call_end.proofs.Makes.{make-goes}
+use Rattle.theorem_call_end.proofs.Receives.{receive-goes}
 use Rattle.theorem_call_cancel.proofs.ReceiveCancels.{cancel-receive-goes}
 use Rattle.theorem_call_cancel.proofs.SendCancels.{cancel-send-goes}
 use Rattle.theorem_call_end.proofs.Destroys.{destroy-goes}
 use Rattle.theorem_call_end.proofs.Exits.{exit-goes}
 use Rattle.theorem_meaning.proofs.Goes.{Goes}
-use Rattle.theorem_call_wait.proofs.Calm.{IsAnswered, answered-invariant}
-use Rattle.theorem_call_wait.proofs.Refused.{IsCaller, caller-process, caller-runs, refused-for, wait-granted}
-use Rattle.theorem_call_wait.proofs.Reports.{reports-goes, telling-is}
+use Rattle.theorem_call_cancel.proofs.Calm.{IsAnswered, answered-invariant}
+use Rattle.theorem_call_cancel.proofs.Refused.{IsCaller, caller-process, caller-runs, refused-for, wait-granted}
+use Rattle.theorem_call_cancel.proofs.Reports.{reports-goes, telling-is}
 use Rattle.theorem.proofs.Start.{starts-well}
-use Rattle.theorem_call_send.proofs.Version.{run-version}
-use Rattle.theorem_match.proofs.Sends.{send-goes}
-use Rattle.theorem_call_wait.proofs.Waits.{IsWaiting, wait-is, waits-invariant}
+use Rattle.theorem_call_cancel.proofs.Version.{run-version}
+use Rattle.theorem_take_parcel_unmet.proofs.Sends.{send-goes}
+use Rattle.theorem_call_cancel.proofs.Waits.{IsWaiting, wait-is, waits-invariant}
 use Rattle.theorem_meaning.specs.Invariant.{Invariant}
 use Rattle.theorem.specs.Law.{GoesWithEach, joined, IsServedLawfully}
 use Rattle.theorem_meaning.specs.StandsFor.{home_of, service_phase}

@@ -13,18 +13,18 @@ use Rattle.end_table.specs.declared.entry.Outward.{Outward}
 use Rattle.end_table.specs.declared.entry.Outward.TheVariants as outward
 use Rattle.kernel_world.specs.World.{World, Takes}
 use Rattle.service_step.specs.State.{State}
-use Rattle.theorem_take_answer.proofs.Takings.{taken-goes, unwanted-goes}
+use Rattle.theorem_call_cancel.proofs.Takings.{taken-goes, unwanted-goes}
 use Rattle.theorem_take_parcel.proofs.Parcels.{parcel-asked-goes}
 use Rattle.theorem_take_back_unmet.proofs.Unmet.{back-unmet-goes}
 use Rattle.theorem_take_parcel_unmet.proofs.Backs.{parcel-back-goes}
 use Rattle.kernel_step.specs.Rows.{asks, awaits}
 use Rattle.theorem_take_back.proofs.Takings.{back-awaited-goes}
-use Rattle.theorem_match.proofs.Wants.{want-matched-goes}
-use Rattle.theorem_take_gone.proofs.Gone.{gone-goes}
-use Rattle.theorem_take_silent.proofs.Hearing.{hearing-goes}
-use Rattle.theorem_take_silent.proofs.Taking.{taking-goes}
-use Rattle.theorem_take_want.proofs.Unwanting.{unwant-goes}
-use Rattle.theorem_take_want.proofs.Wanting.{IsNotWaiting, want-kept-goes}
+use Rattle.theorem_take_parcel_unmet.proofs.Wants.{want-matched-goes}
+use Rattle.theorem_take_back.proofs.Gone.{gone-goes}
+use Rattle.theorem_take_back.proofs.Hearing.{hearing-goes}
+use Rattle.theorem_take_back.proofs.Taking.{taking-goes}
+use Rattle.theorem_take_back.proofs.Unwanting.{unwant-goes}
+use Rattle.theorem_take_back.proofs.Wanting.{IsNotWaiting, want-kept-goes}
 use Rattle.theorem_meaning.proofs.Goes.{Goes}
 use Rattle.theorem_meaning.specs.Invariant.{Invariant}
 

@@ -12,10 +12,10 @@ use Rattle.end_table.specs.declared.entry.Entry.{Entry}
 use Rattle.end_table.specs.declared.entry.Entry.TheVariants as entry
 use Rattle.end_table.specs.declared.entry.HereView.{HereView}
 use Rattle.end_table.specs.declared.entry.Holder.TheVariants as holder
-use Rattle.kernel_effects.specs.Calls.{act_effect}
-use Rattle.kernel_effects.specs.Effect.{Does, Effect}
-use Rattle.kernel_outcomes.proofs.Events.{acts-does}
-use Rattle.kernel_outcomes.specs.Closing.{call_told, ran, told_entry}
+use Rattle.theorem_take_silent.specs.Calls.{act_effect}
+use Rattle.theorem_take_silent.specs.Effect.{Does, Effect}
+use Rattle.theorem_take_silent.proofs.Events.{acts-does}
+use Rattle.theorem_take_silent.specs.Closing.{call_told, ran, told_entry}
 use Rattle.kernel_sound.proofs.Acts.{Covers, acts-well}
 use Rattle.kernel_sound.proofs.Goes.{GoesWell}
 use Rattle.kernel_sound.proofs.Needs.{owned-here}
@@ -25,10 +25,10 @@ use Rattle.kernel_step.specs.Calls.{IsCallWith, refusal, seen, seen_of, sees}
 use Rattle.kernel_step.specs.Kernel.{Kernel, has_report, process_of}
 use Rattle.kernel_step.specs.Progress.{Progress}
 use Rattle.kernel_step.specs.declared.phase.Phase.TheVariants as kernel_phase
-use Rattle.kernel_world.specs.World.{World}
+use Rattle.theorem_meaning.specs.World.{World}
 use Rattle.service_step.specs.State.{State}
-use Rattle.theorem_effects.specs.Change.{Becomes, Change}
-use Rattle.theorem_effects.specs.Events.{caller, calling}
+use Rattle.theorem_take_silent.specs.Change.{Becomes, Change}
+use Rattle.theorem_take_silent.specs.Events.{caller, calling}
 use Rattle.theorem_meaning.specs.Invariant.{Invariant, IsOfSetting}
 use Rattle.theorem_meaning.specs.StandsFor.{IsProcessOf, home_of, service_phase}
 

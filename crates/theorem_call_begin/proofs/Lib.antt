@@ -8,3 +8,7 @@ pub mod Making
 pub mod MadeLinks
 pub mod MadeClauses
 pub mod Makes
+pub use Rattle.theorem_take_silent.proofs.Alike
+pub use Rattle.theorem_take_silent.proofs.Allowed
+pub use Rattle.theorem_take_silent.proofs.NamedAfter
+pub use Rattle.theorem_take_silent.proofs.Places

@@ -11,21 +11,21 @@ use Rattle.end_table.specs.Table.{IsHereAnd}
 use Rattle.end_table.specs.declared.entry.Entry.{Entry}
 use Rattle.end_table.specs.declared.entry.Entry.TheVariants as entry
 use Rattle.end_table.specs.declared.entry.HereView.{HereView}
-use Rattle.kernel_effects.specs.Calls.{make_effect}
+use Rattle.theorem_take_silent.specs.Calls.{make_effect}
 use Rattle.kernel_sound.specs.Sound.{addressee}
 use Rattle.kernel_step.specs.Actions.{is_withdrawing}
 use Rattle.kernel_step.specs.Calls.{made_end}
-use Rattle.kernel_world.specs.World.{World}
+use Rattle.theorem_meaning.specs.World.{World}
 use Rattle.service_step.specs.Ends.{is_made, is_taken, matched_message}
 use Rattle.service_step.specs.State.{State}
 use Rattle.service_step.specs.declared.state.End.{End}
 use Rattle.service_step.specs.declared.state.Outward.{Outward}
-use Rattle.theorem_effects.proofs.Addressees.{asking-to, news-to, unwant-to}
-use Rattle.theorem_effects.proofs.Lists.{none-there}
-use Rattle.theorem_effects.proofs.NamedAfter.{named-after}
-use Rattle.theorem_effects.proofs.Packets.{each-after, left-before}
-use Rattle.theorem_effects.proofs.Sums.{sum_over-same}
-use Rattle.theorem_effects.specs.Named.{NamesWithin}
+use Rattle.theorem_take_silent.proofs.Addressees.{asking-to, news-to, unwant-to}
+use Rattle.theorem_take_silent.proofs.Lists.{none-there}
+use Rattle.theorem_take_silent.proofs.NamedAfter.{named-after}
+use Rattle.theorem_take_silent.proofs.Packets.{each-after, left-before}
+use Rattle.theorem_take_silent.proofs.Sums.{sum_over-same}
+use Rattle.theorem_take_silent.specs.Named.{NamesWithin}
 use Rattle.theorem_meaning.proofs.Frame.{frame-counted, frame-honest, frame-marked, frame-once, frame-packet, frame-served, frame-wanted, had-fields}
 use Rattle.theorem_meaning.specs.Fields.{Stand, At, HasFields, IsAskedAs, IsAsking, IsHeard, IsNews, IsNoMore, IsUnserved, IsUnwantOf, value_of}
 use Rattle.theorem_meaning.specs.Invariant.{AreAsked, AreCancelling, AreCounted, AreMarked, AreNamed, AreRight, AreSentOnce, AreWanted, IsFew, IsHonest, IsPacketRight, IsServed, IsUnwantedOnce, is_message_of, is_taken_of, is_unwanted_to}

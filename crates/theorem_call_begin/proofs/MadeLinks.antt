@@ -10,13 +10,13 @@ use Rattle.end_table.specs.declared.entry.HereView.{HereView}
 use Rattle.end_table.specs.declared.entry.Holder.TheVariants as holder
 use Rattle.kernel_step.specs.Calls.{made_end}
 use Rattle.kernel_step.specs.Rows.{ends_in, is_here}
-use Rattle.kernel_world.specs.World.{World}
+use Rattle.theorem_meaning.specs.World.{World}
 use Rattle.service_step.specs.Ends.{fresh, is_living}
 use Rattle.service_step.specs.State.{State}
 use Rattle.service_step.specs.declared.state.End.{End}
 use Rattle.service_step.specs.declared.state.Place.TheVariants as place
-use Rattle.theorem_effects.proofs.Ends.{inward-same, outward-same}
-use Rattle.theorem_effects.proofs.Sums.{sum_over-same}
+use Rattle.theorem_take_silent.proofs.Ends.{inward-same, outward-same}
+use Rattle.theorem_take_silent.proofs.Sums.{sum_over-same}
 use Rattle.theorem_meaning.proofs.Plain.{holder-same, owner-same}
 use Rattle.theorem_meaning.proofs.Sums.{over-one, over-same}
 use Rattle.theorem_meaning.specs.Fields.{At, Flying, value_of}

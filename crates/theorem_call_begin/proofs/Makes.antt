@@ -12,21 +12,21 @@ use Rattle.charlotte_calls.specs.declared.names.EndId.{EndId}
 use Rattle.charlotte_calls.specs.declared.names.LinkId.{LinkId}
 use Rattle.charlotte_calls.specs.declared.names.Pid.{Pid}
 use Rattle.charlotte_calls.specs.declared.setting.Setting.{Setting}
-use Rattle.kernel_effects.specs.Calls.{act_effect, make_effect}
+use Rattle.theorem_take_silent.specs.Calls.{act_effect, make_effect}
 use Rattle.kernel_sound.specs.Sound.{IsSound}
 use Rattle.kernel_step.specs.Calls.{made_end, refusal}
 use Rattle.kernel_step.specs.Kernel.{Kernel, has_report, process_of}
 use Rattle.kernel_step.specs.declared.phase.Phase.TheVariants as kernel_phase
-use Rattle.kernel_world.specs.Run.{IsAllowed}
-use Rattle.kernel_world.specs.World.{World, Calls, Event, happens}
+use Rattle.theorem_meaning.specs.Run.{IsAllowed}
+use Rattle.theorem_meaning.specs.World.{World, Calls, Event, happens}
 use Rattle.service_change.proofs.EndEq.{end_eq-refl}
 use Rattle.service_consistent.proofs.Laws.{consistent_after}
 use Rattle.service_step.specs.State.{State, counted, is_running, next_at, next_link}
 use Rattle.service_step.specs.Steps.{IsServiceStep, is_new_pair, may_make}
-use Rattle.theorem_effects.proofs.Allowed.{performs-allowed}
-use Rattle.theorem_effects.proofs.NamedAfter.{performs-names}
-use Rattle.theorem_effects.specs.Change.{Change, Happens}
-use Rattle.theorem_effects.specs.Events.{calling}
+use Rattle.theorem_take_silent.proofs.Allowed.{performs-allowed}
+use Rattle.theorem_take_silent.proofs.NamedAfter.{performs-names}
+use Rattle.theorem_take_silent.specs.Change.{Change, Happens}
+use Rattle.theorem_take_silent.specs.Events.{calling}
 use Rattle.theorem_meaning.proofs.Goes.{Goes}
 use Rattle.theorem_meaning.proofs.Plain.{got}
 use Rattle.theorem_meaning.specs.Invariant.{Invariant}

@@ -16,11 +16,11 @@ use Rattle.end_table.specs.declared.entry.Entry.{Entry}
 use Rattle.end_table.specs.declared.entry.Entry.TheVariants as entry
 use Rattle.end_table.specs.declared.entry.HereView.{HereView}
 use Rattle.end_table.specs.declared.entry.Holder.TheVariants as holder
-use Rattle.kernel_effects.specs.Calls.{make_effect}
+use Rattle.theorem_take_silent.specs.Calls.{make_effect}
 use Rattle.kernel_sound.specs.Sound.{addressee}
 use Rattle.kernel_step.specs.Calls.{made_end}
 use Rattle.kernel_step.specs.Rows.{ends_in, is_here}
-use Rattle.kernel_world.specs.World.{World}
+use Rattle.theorem_meaning.specs.World.{World}
 use Rattle.service_change.proofs.EndEq.{put-at, put-other}
 use Rattle.service_consistent.proofs.Makes.{same-link}
 use Rattle.service_step.specs.Ends.{fresh, is_destroyed, is_living, is_made, makes, put, unmade}
@@ -29,13 +29,13 @@ use Rattle.service_step.specs.Steps.{after_make}
 use Rattle.service_step.specs.declared.state.End.{End}
 use Rattle.service_step.specs.declared.state.Place.{Place}
 use Rattle.service_step.specs.declared.state.Place.TheVariants as place
-use Rattle.theorem_effects.proofs.Allowed.{between, sum_over-least}
-use Rattle.theorem_effects.proofs.Aside.{none-sent, none-taken}
-use Rattle.theorem_effects.proofs.Lists.{first_or_later, none-there, first, later}
-use Rattle.theorem_effects.proofs.Packets.{under_way-still, under_way-was}
-use Rattle.theorem_effects.proofs.Values.{values-least}
-use Rattle.theorem_effects.specs.Change.{Change, Changes}
-use Rattle.theorem_effects.specs.Events.{calling}
+use Rattle.theorem_take_silent.proofs.Allowed.{between, sum_over-least}
+use Rattle.theorem_take_silent.proofs.Aside.{none-sent, none-taken}
+use Rattle.theorem_take_silent.proofs.Lists.{first_or_later, none-there, first, later}
+use Rattle.theorem_take_silent.proofs.Packets.{under_way-still, under_way-was}
+use Rattle.theorem_take_silent.proofs.Values.{values-least}
+use Rattle.theorem_take_silent.specs.Change.{Change, Changes}
+use Rattle.theorem_take_silent.specs.Events.{calling}
 use Rattle.theorem_meaning.proofs.Ends.{apart-false, eq-same, opposite-apart}
 use Rattle.theorem_meaning.proofs.Frame.{IsSameLink}
 use Rattle.theorem_meaning.proofs.Plain.{view-same}

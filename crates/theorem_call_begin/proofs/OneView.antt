@@ -12,13 +12,13 @@ use Rattle.end_table.specs.declared.entry.HereView.{HereView}
 use Rattle.end_table.specs.declared.entry.Holder.{Holder}
 use Rattle.end_table.specs.declared.entry.Holder.TheVariants as holder
 use Rattle.kernel_step.specs.Rows.{ends_in, is_here}
-use Rattle.theorem_effects.proofs.Aside.{none-taken}
-use Rattle.theorem_effects.proofs.Lists.{only-there}
-use Rattle.theorem_effects.proofs.Packets.{left-was, under_way-after, under_way-still}
-use Rattle.theorem_effects.proofs.Sums.{sum_over-same}
-use Rattle.theorem_effects.specs.Change.{Change, Changes}
-use Rattle.theorem_effects.specs.Sums.{AllSent}
-use Rattle.theorem_effects.specs.Under.{IsLeft, IsSent}
+use Rattle.theorem_take_silent.proofs.Aside.{none-taken}
+use Rattle.theorem_take_silent.proofs.Lists.{only-there}
+use Rattle.theorem_take_silent.proofs.Packets.{left-was, under_way-after, under_way-still}
+use Rattle.theorem_take_silent.proofs.Sums.{sum_over-same}
+use Rattle.theorem_take_silent.specs.Change.{Change, Changes}
+use Rattle.theorem_take_silent.specs.Sums.{AllSent}
+use Rattle.theorem_take_silent.specs.Under.{IsLeft, IsSent}
 use Rattle.theorem_meaning.proofs.Sums.{over-same}
 use Rattle.theorem_meaning.specs.Packets.{IsBackOf, IsParcelOf, IsUnderWay, Links, one_if, over_kernels, sum_over, values_for, values_of}
 use Rattle.theorem_meaning.specs.StandsFor.{IsInMessage, IsWaitingWith, entry_at, standing}

@@ -15,7 +15,7 @@ use Rattle.end_table.specs.declared.entry.HereView.{HereView}
 use Rattle.end_table.specs.declared.entry.Holder.TheVariants as holder
 use Rattle.end_table.specs.declared.entry.Inward.TheVariants as kernel_inward
 use Rattle.kernel_step.specs.Actions.{hint_kernel, is_withdrawing}
-use Rattle.kernel_world.specs.World.{World}
+use Rattle.theorem_meaning.specs.World.{World}
 use Rattle.service_lawful.specs.Consistent.{is_open}
 use Rattle.service_step.specs.Ends.{is_living, is_made, is_posted, is_taken, matched_message}
 use Rattle.service_step.specs.State.{State}
@@ -24,12 +24,12 @@ use Rattle.service_step.specs.declared.state.Outward.{Outward}
 use Rattle.service_step.specs.declared.state.Phase.TheVariants as phase
 use Rattle.service_step.specs.declared.state.Place.{Place}
 use Rattle.theorem_take_silent.proofs.Places.{fields-here}
-use Rattle.theorem_effects.proofs.Lists.{only-there}
-use Rattle.theorem_effects.proofs.NamedAfter.{named-after}
-use Rattle.theorem_effects.proofs.Packets.{each-after}
-use Rattle.theorem_effects.proofs.Sums.{sum_over-same}
-use Rattle.theorem_effects.specs.Named.{NamesWithin}
-use Rattle.kernel_effects.specs.Calls.{post_effect}
+use Rattle.theorem_take_silent.proofs.Lists.{only-there}
+use Rattle.theorem_take_silent.proofs.NamedAfter.{named-after}
+use Rattle.theorem_take_silent.proofs.Packets.{each-after}
+use Rattle.theorem_take_silent.proofs.Sums.{sum_over-same}
+use Rattle.theorem_take_silent.specs.Named.{NamesWithin}
+use Rattle.theorem_take_silent.specs.Calls.{post_effect}
 use Rattle.theorem_meaning.proofs.Ends.{apart-false, opposite-twice}
 use Rattle.theorem_meaning.proofs.Plain.{view-same}
 use Rattle.theorem_meaning.specs.Fields.{Stand, HasFields, IsAskedAs, IsAsking, IsHeard, IsNews, IsNoMore, IsUnserved, IsUnwantOf}

@@ -12,14 +12,14 @@ use Rattle.end_table.specs.declared.entry.HereView.{HereView}
 use Rattle.end_table.specs.declared.entry.Holder.TheVariants as holder
 use Rattle.end_table.specs.declared.entry.Inward.TheVariants as kernel_inward
 use Rattle.kernel_step.specs.Rows.{ends_in}
-use Rattle.kernel_world.specs.World.{World}
+use Rattle.theorem_meaning.specs.World.{World}
 use Rattle.service_lawful.specs.Consistent.{is_open}
 use Rattle.service_step.specs.Ends.{is_living}
 use Rattle.service_step.specs.State.{State}
 use Rattle.service_step.specs.declared.state.End.{End}
 use Rattle.service_step.specs.declared.state.Place.{Place}
 use Rattle.service_step.specs.declared.state.Place.TheVariants as place
-use Rattle.theorem_effects.proofs.Ends.{inward-same, outward-same}
+use Rattle.theorem_take_silent.proofs.Ends.{inward-same, outward-same}
 use Rattle.theorem_meaning.proofs.Plain.{owner-same, view-same}
 use Rattle.theorem_meaning.specs.Fields.{IsAskedAs}
 use Rattle.theorem_meaning.specs.Invariant.{IsPacketRight, IsParcelRight, IsVoidRight}

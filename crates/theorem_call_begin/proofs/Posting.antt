@@ -17,9 +17,9 @@ use Rattle.end_table.specs.declared.entry.Entry.TheVariants as entry
 use Rattle.end_table.specs.declared.entry.HereView.{HereView}
 use Rattle.end_table.specs.declared.entry.Holder.TheVariants as holder
 use Rattle.end_table.specs.declared.entry.Inward.TheVariants as kernel_inward
-use Rattle.kernel_effects.specs.Calls.{post_effect}
+use Rattle.theorem_take_silent.specs.Calls.{post_effect}
 use Rattle.kernel_step.specs.Actions.{hint_kernel}
-use Rattle.kernel_world.specs.World.{World}
+use Rattle.theorem_meaning.specs.World.{World}
 use Rattle.service_change.proofs.EndEq.{puts-at, puts-other}
 use Rattle.service_lawful.specs.Consistent.{is_open}
 use Rattle.service_step.specs.Ends.{is_made, is_posted, turns_inward}
@@ -30,9 +30,9 @@ use Rattle.service_step.specs.declared.state.Inward.TheVariants as inward
 use Rattle.service_step.specs.declared.state.Place.TheVariants as place
 use Rattle.theorem_take_silent.proofs.Alike.{some-same}
 use Rattle.theorem_take_silent.proofs.Places.{here-kernel}
-use Rattle.theorem_effects.proofs.Lists.{none-there}
-use Rattle.theorem_effects.specs.Change.{Change, Changes}
-use Rattle.theorem_effects.specs.Events.{calling}
+use Rattle.theorem_take_silent.proofs.Lists.{none-there}
+use Rattle.theorem_take_silent.specs.Change.{Change, Changes}
+use Rattle.theorem_take_silent.specs.Events.{calling}
 use Rattle.theorem_meaning.proofs.Ends.{eq-same, opposite-twice}
 use Rattle.theorem_meaning.specs.Fields.{Stand, At, Flying, HasFields, IsUnserved, value_of}
 use Rattle.theorem_meaning.specs.Invariant.{Invariant}

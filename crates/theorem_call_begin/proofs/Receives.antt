@@ -16,22 +16,22 @@ use Rattle.end_table.specs.declared.entry.HereView.{HereView}
 use Rattle.end_table.specs.declared.entry.Holder.TheVariants as holder
 use Rattle.end_table.specs.declared.entry.Inward.{Inward}
 use Rattle.end_table.specs.declared.entry.Inward.TheVariants as kernel_inward
-use Rattle.kernel_effects.specs.Calls.{act_effect, effect_on, post_effect}
+use Rattle.theorem_take_silent.specs.Calls.{act_effect, effect_on, post_effect}
 use Rattle.kernel_step.specs.Calls.{inward_activity, refusal, seen_of, sees}
 use Rattle.kernel_step.specs.Kernel.{has_report, process_of}
 use Rattle.kernel_step.specs.declared.phase.Phase.TheVariants as kernel_phase
-use Rattle.kernel_world.specs.Run.{IsAllowed}
-use Rattle.kernel_world.specs.World.{World, Calls, Event, happens}
+use Rattle.theorem_meaning.specs.Run.{IsAllowed}
+use Rattle.theorem_meaning.specs.World.{World, Calls, Event, happens}
 use Rattle.service_consistent.proofs.Laws.{consistent_after}
 use Rattle.service_step.specs.Ends.{is_idle_inward, is_made, is_owned_by, owner}
 use Rattle.service_step.specs.State.{State, is_running}
 use Rattle.service_step.specs.Steps.{IsServiceStep, may_receive, may_receive_as}
 use Rattle.service_step.specs.declared.state.Phase.TheVariants as phase
 use Rattle.service_step.specs.declared.state.Place.{Place}
-use Rattle.theorem_effects.proofs.Allowed.{performs-allowed}
-use Rattle.theorem_effects.proofs.NamedAfter.{performs-names}
-use Rattle.theorem_effects.specs.Change.{Change, Happens}
-use Rattle.theorem_effects.specs.Events.{calling}
+use Rattle.theorem_take_silent.proofs.Allowed.{performs-allowed}
+use Rattle.theorem_take_silent.proofs.NamedAfter.{performs-names}
+use Rattle.theorem_take_silent.specs.Change.{Change, Happens}
+use Rattle.theorem_take_silent.specs.Events.{calling}
 use Rattle.theorem_meaning.proofs.Goes.{Goes}
 use Rattle.theorem_meaning.specs.Invariant.{Invariant}
 use Rattle.theorem_meaning.specs.Packets.{links_of}

@@ -28,17 +28,17 @@ use Rattle.service_step.specs.State.{State, Process, is_running}
 use Rattle.service_step.specs.Steps.{IsServiceStep, after_cancel, is_running_owner, may_cancel}
 use Rattle.service_step.specs.declared.state.Phase.TheVariants as phase
 use Rattle.service_step.specs.declared.state.Place.{Place}
-use Rattle.theorem_effects.proofs.Allowed.{performs-allowed}
-use Rattle.theorem_effects.proofs.NamedAfter.{performs-names}
-use Rattle.theorem_effects.specs.Change.{Happens}
-use Rattle.theorem_effects.specs.Events.{calling, caller}
+use Rattle.theorem_call_send.proofs.Allowed.{performs-allowed}
+use Rattle.theorem_call_send.proofs.NamedAfter.{performs-names}
+use Rattle.theorem_call_send.specs.Change.{Happens}
+use Rattle.theorem_call_send.specs.Events.{calling, caller}
 use Rattle.theorem_meaning.proofs.Goes.{Goes}
 use Rattle.theorem_meaning.specs.Invariant.{Invariant}
 use Rattle.theorem_meaning.specs.Packets.{links_of}
 use Rattle.theorem_meaning.specs.StandsFor.{IsProcessOf, home_of}
 use Rattle.theorem_take_answer.proofs.World.{processes-told}
-use Rattle.theorem_call_begin.proofs.Answered.{IsGranted, granted-on, owned-of, setting-called}
-use Rattle.theorem_call_begin.proofs.Receives.{home-near, runs-there}
+use Rattle.theorem_call_send.proofs.Answered.{IsGranted, granted-on, owned-of, setting-called}
+use Rattle.theorem_call_send.proofs.Receives.{home-near, runs-there}
 use Rattle.theorem_call_cancel.proofs.Withdrawing.{IsWithdrawing, is-started, placed, unaware}
 use Rattle.theorem_call_cancel.proofs.WithdrawnClauses.{withdrawn-right}
 use Rattle.theorem_call_cancel.proofs.WithdrawnLinks.{withdrawn-links}

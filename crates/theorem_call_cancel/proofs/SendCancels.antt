@@ -35,15 +35,15 @@ use Rattle.service_step.specs.State.{State, is_running}
 use Rattle.service_step.specs.Steps.{IsServiceStep, after_cancel, is_running_owner, may_cancel}
 use Rattle.service_step.specs.declared.state.Place.{Place}
 use Rattle.service_step.specs.declared.state.Place.TheVariants as place
-use Rattle.theorem_effects.proofs.Allowed.{performs-allowed}
-use Rattle.theorem_effects.specs.Change.{Happens}
-use Rattle.theorem_effects.specs.Events.{calling}
+use Rattle.theorem_call_send.proofs.Allowed.{performs-allowed}
+use Rattle.theorem_call_send.specs.Change.{Happens}
+use Rattle.theorem_call_send.specs.Events.{calling}
 use Rattle.theorem_meaning.proofs.Goes.{Goes}
 use Rattle.theorem_meaning.specs.Invariant.{Invariant}
 use Rattle.theorem_meaning.specs.Packets.{links_of}
 use Rattle.theorem_meaning.specs.StandsFor.{home_of}
-use Rattle.theorem_call_begin.proofs.Answered.{granted-on, owned-of, processes-after, setting-called}
-use Rattle.theorem_call_begin.proofs.Receives.{runs-there}
+use Rattle.theorem_call_send.proofs.Answered.{granted-on, owned-of, processes-after, setting-called}
+use Rattle.theorem_call_send.proofs.Receives.{runs-there}
 use Rattle.theorem_call_send.specs.Regrouped.{is_among}
 use Rattle.theorem_call_send.proofs.SamePackets.{no-packets}
 use Rattle.theorem_call_cancel.specs.TakenBack.{IsTakingBack, taken_back}

@@ -26,7 +26,7 @@ use Rattle.service_step.specs.declared.state.Message.{Message}
 use Rattle.service_step.specs.declared.state.Outward.{Outward}
 use Rattle.service_step.specs.declared.state.Outward.TheVariants as outward
 use Rattle.service_step.specs.declared.state.Place.TheVariants as place
-use Rattle.theorem_take_silent.proofs.Alike.{some-same}
+use Rattle.theorem_take_answer.proofs.Alike.{some-same}
 use Rattle.theorem_meaning.proofs.Ends.{eq-same}
 use Rattle.theorem_meaning.specs.Fields.{At, value_of}
 use Rattle.theorem_meaning.specs.Invariant.{AreRight}

@@ -1,7 +1,7 @@
 -- A granted Cancel of a receive in a world and in the service: which entry changes, which packet is sent, and what its process becomes.
 use Rattle.std.proofs.Common.{◌≡◌, ◌≢◌, ◌⊎◌, ◌↔◌, inl, inr, ℕ, true, false, ◌||◌, if◌then◌else◌, Contains, refl, sym, ap, subst, ◌∙◌}
 use Rattle.std.proofs.lemmas.List.Elements.{All-contains}
-use Rattle.theorem_call_begin.proofs.OneView.{IsIts, IsOneView, entry-or, packet-same}
+use Rattle.theorem_call_send.proofs.OneView.{IsIts, IsOneView, entry-or, packet-same}
 use Rattle.charlotte_calls.specs.Names.{opposite}
 use Rattle.charlotte_calls.specs.declared.calls.Call.TheVariants as call
 use Rattle.charlotte_calls.specs.declared.names.EndId.{EndId}
@@ -25,9 +25,9 @@ use Rattle.service_step.specs.declared.state.Inward.{Inward}
 use Rattle.service_step.specs.declared.state.Inward.TheVariants as inward
 use Rattle.service_step.specs.declared.state.Phase.TheVariants as phase
 use Rattle.service_step.specs.declared.state.Place.TheVariants as place
-use Rattle.theorem_effects.proofs.Lists.{none-there}
-use Rattle.theorem_effects.specs.Change.{Change, Changes}
-use Rattle.theorem_effects.specs.Events.{calling}
+use Rattle.theorem_call_send.proofs.Lists.{none-there}
+use Rattle.theorem_call_send.specs.Change.{Change, Changes}
+use Rattle.theorem_call_send.specs.Events.{calling}
 use Rattle.theorem_meaning.specs.Fields.{Stand, At, Flying, HasFields, IsAskedAs, value_of}
 use Rattle.theorem_meaning.specs.Invariant.{Invariant, IsPacketRight, IsVoidRight}
 use Rattle.theorem_meaning.specs.Packets.{IsUnderWay, IsUnwantedOf, Links, links_of, values_of}

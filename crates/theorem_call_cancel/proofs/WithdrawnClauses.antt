@@ -1,6 +1,6 @@
 -- After a granted Cancel of a receive all clauses on links are true again.
 use Rattle.std.proofs.Common.{◌≡◌, ◌⊎◌, inl, inr, ℕ, ◌+◌, ◌<◌, ◌≤◌, Bool, true, false, length, slice_index, refl, sym, ap, subst, ◌∙◌, arith, true≢false}
-use Rattle.theorem_call_begin.proofs.OneView.{IsIts, entry-or, here-still, now-here, other-entry, packet-or, packet-same}
+use Rattle.theorem_call_send.proofs.OneView.{IsIts, entry-or, here-still, now-here, other-entry, packet-or, packet-same}
 use Rattle.charlotte_calls.specs.Names.{opposite}
 use Rattle.charlotte_calls.specs.declared.names.EndId.{EndId}
 use Rattle.charlotte_calls.specs.declared.names.Pid.{Pid}
@@ -22,11 +22,11 @@ use Rattle.service_lawful.specs.Consistent.{is_open}
 use Rattle.service_step.specs.Ends.{is_living, is_made, is_posted, is_taken}
 use Rattle.service_step.specs.State.{State}
 use Rattle.service_step.specs.declared.state.Phase.TheVariants as phase
-use Rattle.theorem_effects.proofs.Lists.{only-there}
-use Rattle.theorem_effects.proofs.NamedAfter.{named-after}
-use Rattle.theorem_effects.proofs.Packets.{each-after}
-use Rattle.theorem_effects.proofs.Sums.{sum_over-same}
-use Rattle.theorem_effects.specs.Named.{NamesWithin}
+use Rattle.theorem_call_send.proofs.Lists.{only-there}
+use Rattle.theorem_call_send.proofs.NamedAfter.{named-after}
+use Rattle.theorem_call_send.proofs.Packets.{each-after}
+use Rattle.theorem_call_send.proofs.Sums.{sum_over-same}
+use Rattle.theorem_call_send.specs.Named.{NamesWithin}
 use Rattle.theorem_meaning.proofs.Ends.{apart-false, opposite-twice}
 use Rattle.theorem_meaning.specs.Fields.{Stand, HasFields, IsAskedAs, IsAsking, IsHeard, IsNews, IsNoMore, IsUnserved, IsUnwantOf}
 use Rattle.theorem_meaning.specs.Invariant.{AreAsked, AreCancelling, AreCounted, AreMarked, AreRight, AreSentOnce, AreWanted, IsFew, IsHonest, IsPacketRight, IsServed, IsUnwantedOnce, is_message_of, is_taken_of, is_unwanted_to}

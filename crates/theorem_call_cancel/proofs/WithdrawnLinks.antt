@@ -1,6 +1,6 @@
 -- After a granted Cancel of a receive the links stand for the state of the service.
 use Rattle.std.proofs.Common.{◌≡◌, ◌⊎◌, ◌↔◌, ℕ, Bool, true, false, refl, sym, ap, subst, ◌∙◌}
-use Rattle.theorem_call_begin.proofs.OneView.{held-same, in_message-same, now-here, other-entry, packet-same, standing-same}
+use Rattle.theorem_call_send.proofs.OneView.{held-same, in_message-same, now-here, other-entry, packet-same, standing-same}
 use Rattle.charlotte_calls.specs.declared.names.EndId.{EndId}
 use Rattle.charlotte_calls.specs.declared.names.Pid.{Pid}
 use Rattle.end_table.proofs.EndEq.{end_eq-same}
@@ -12,7 +12,7 @@ use Rattle.end_table.specs.declared.entry.Inward.TheVariants as kernel_inward
 use Rattle.kernel_world.specs.World.{World}
 use Rattle.service_step.specs.State.{State}
 use Rattle.service_step.specs.declared.state.Place.TheVariants as place
-use Rattle.theorem_effects.proofs.Ends.{inward-same, outward-same}
+use Rattle.theorem_call_send.proofs.Ends.{inward-same, outward-same}
 use Rattle.theorem_meaning.proofs.Plain.{owner-same, view-same}
 use Rattle.theorem_meaning.specs.Packets.{IsParcelFor, IsTakenOf, IsUnderWay, IsUnwantedOf, Links, links_of}
 use Rattle.theorem_meaning.specs.StandsFor.{AreLinksOf, IsEndOf, entry_at, home_of}

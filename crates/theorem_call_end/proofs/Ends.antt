@@ -23,12 +23,12 @@ use Rattle.service_step.specs.Ends.{destroys_each}
 use Rattle.service_step.specs.State.{State, Process}
 use Rattle.service_step.specs.Steps.{IsServiceStep}
 use Rattle.service_step.specs.declared.state.Phase.TheVariants as phase
-use Rattle.theorem_effects.proofs.Allowed.{performs-allowed}
-use Rattle.theorem_effects.proofs.NamedAfter.{performs-names, performs-within, told-names}
-use Rattle.theorem_effects.specs.Change.{Change, Changes, Happens}
-use Rattle.theorem_effects.specs.Events.{caller, calling}
-use Rattle.theorem_effects.specs.Named.{NamesWithin}
-use Rattle.theorem_effects.specs.Sums.{IsWithin}
+use Rattle.theorem_call_begin.proofs.Allowed.{performs-allowed}
+use Rattle.theorem_call_begin.proofs.NamedAfter.{performs-names, performs-within, told-names}
+use Rattle.theorem_call_begin.specs.Change.{Change, Changes, Happens}
+use Rattle.theorem_call_begin.specs.Events.{caller, calling}
+use Rattle.theorem_call_begin.specs.Named.{NamesWithin}
+use Rattle.theorem_call_begin.specs.Sums.{IsWithin}
 use Rattle.theorem_meaning.proofs.Goes.{Goes}
 use Rattle.theorem_meaning.specs.Invariant.{Invariant}
 use Rattle.theorem_meaning.specs.Packets.{links_of}

@@ -35,9 +35,9 @@ use Rattle.service_step.specs.declared.state.Outward.{Outward}
 use Rattle.service_step.specs.declared.state.Outward.TheVariants as outward
 use Rattle.service_step.specs.declared.state.Phase.TheVariants as phase
 use Rattle.service_step.specs.declared.state.Place.TheVariants as place
-use Rattle.theorem_take_silent.proofs.Places.{here-kernel}
-use Rattle.theorem_effects.specs.Change.{Change}
-use Rattle.theorem_effects.specs.Sums.{AllSent, sum_taken}
+use Rattle.theorem_call_begin.proofs.Places.{here-kernel}
+use Rattle.theorem_call_begin.specs.Change.{Change}
+use Rattle.theorem_call_begin.specs.Sums.{AllSent, sum_taken}
 use Rattle.theorem_meaning.proofs.Ends.{opposite-twice}
 use Rattle.theorem_meaning.specs.Fields.{At, value_of}
 use Rattle.theorem_meaning.specs.Invariant.{Invariant, is_message_of}

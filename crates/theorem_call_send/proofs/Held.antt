@@ -13,13 +13,13 @@ use Rattle.service_step.specs.Ends.{is_living}
 use Rattle.service_step.specs.State.{State}
 use Rattle.service_step.specs.declared.state.Place.{Place}
 use Rattle.service_step.specs.declared.state.Place.TheVariants as place
-use Rattle.theorem_effects.proofs.Values.{value-found}
+use Rattle.theorem_call_wait.proofs.Values.{value-found}
 use Rattle.theorem_meaning.proofs.Plain.{there-here, view-same}
 use Rattle.theorem_meaning.specs.Fields.{Stand, At, Flying, HasFields}
 use Rattle.theorem_meaning.specs.Invariant.{AreRight}
 use Rattle.theorem_meaning.specs.Packets.{IsUnderWay, Links, values_of}
 use Rattle.theorem_meaning.specs.StandsFor.{AreLinksOf, IsInMessage, IsWaitingWith, entry_at, home_of}
-use Rattle.theorem_take_silent.proofs.Places.{fields-here, here-kernel, here-living}
+use Rattle.theorem_call_begin.proofs.Places.{fields-here, here-kernel, here-living}
 
 -- a process owns it there, or a send that waits there encloses it
 pub data IsHeldAs (w : Links) (s : State) (k : ℕ) (f : EndId) (v : HereView) : Type 0 where

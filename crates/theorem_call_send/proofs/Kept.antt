@@ -14,7 +14,7 @@ use Rattle.service_step.specs.Ends.{is_living, is_made}
 use Rattle.service_step.specs.State.{State}
 use Rattle.service_step.specs.declared.state.End.{End}
 use Rattle.service_step.specs.declared.state.Place.TheVariants as place
-use Rattle.theorem_take_silent.proofs.Alike.{some-same}
+use Rattle.theorem_call_begin.proofs.Alike.{some-same}
 use Rattle.theorem_meaning.proofs.Plain.{destroyed-so}
 use Rattle.theorem_meaning.proofs.Sums.{over-same}
 use Rattle.theorem_meaning.specs.Fields.{Stand, At, Flying, HasFields, IsAsking, IsHeard, IsNews, IsUnserved, value_of}

@@ -21,7 +21,7 @@ use Rattle.service_step.specs.declared.state.Message.{Message}
 use Rattle.service_step.specs.declared.state.Outward.{Outward}
 use Rattle.service_step.specs.declared.state.Outward.TheVariants as outward
 use Rattle.service_step.specs.declared.state.Place.{Place}
-use Rattle.theorem_take_silent.proofs.Alike.{some-same}
+use Rattle.theorem_call_begin.proofs.Alike.{some-same}
 use Rattle.theorem_meaning.proofs.Plain.{there-here, view-same}
 use Rattle.theorem_meaning.specs.Fields.{Stand, At, Flying, HasFields, value_of}
 use Rattle.theorem_meaning.specs.Invariant.{AreRight, IsFew}

@@ -5,9 +5,9 @@ use Rattle.charlotte_calls.specs.declared.names.EndId.{EndId}
 use Rattle.charlotte_packets.specs.declared.picture.PictureWhat.{PictureWhat}
 use Rattle.end_table.specs.declared.entry.HereView.{HereView}
 use Rattle.service_step.specs.declared.state.End.{End}
-use Rattle.theorem_effects.proofs.Ends.{inward-same, outward-same}
-use Rattle.theorem_effects.proofs.Lists.{All-there, going}
-use Rattle.theorem_effects.specs.Change.{Change, Changes, taken_from}
+use Rattle.theorem_call_wait.proofs.Ends.{inward-same, outward-same}
+use Rattle.theorem_call_wait.proofs.Lists.{All-there, going}
+use Rattle.theorem_call_wait.specs.Change.{Change, Changes, taken_from}
 use Rattle.theorem_meaning.proofs.Sums.{over-same}
 use Rattle.theorem_meaning.specs.Packets.{Each, IsParcelFor, IsTakenOf, IsUnderWay, IsUnwantedOf, Links, over_kernels, sum_in, sum_over}
 use Rattle.theorem_meaning.specs.StandsFor.{IsEndOf}

@@ -25,9 +25,9 @@ use Rattle.kernel_world.specs.World.{World, Calls, Event, happens}
 use Rattle.service_consistent.proofs.Laws.{consistent_after}
 use Rattle.service_step.specs.State.{State}
 use Rattle.service_step.specs.Steps.{IsServiceStep, may_send}
-use Rattle.theorem_effects.proofs.Allowed.{performs-allowed}
-use Rattle.theorem_effects.specs.Change.{Happens}
-use Rattle.theorem_effects.specs.Events.{calling}
+use Rattle.theorem_call_wait.proofs.Allowed.{performs-allowed}
+use Rattle.theorem_call_wait.specs.Change.{Happens}
+use Rattle.theorem_call_wait.specs.Events.{calling}
 use Rattle.theorem_meaning.proofs.Goes.{Goes}
 use Rattle.theorem_meaning.specs.Fields.{At, value_of}
 use Rattle.theorem_meaning.specs.Invariant.{Invariant}

@@ -1,3 +1,7 @@
 pub mod Kept
 pub mod Regrouped
 pub mod Begun
+pub use Rattle.theorem_call_wait.specs.Change
+pub use Rattle.theorem_call_wait.specs.Events
+pub use Rattle.theorem_call_wait.specs.Named
+pub use Rattle.theorem_call_wait.specs.Under

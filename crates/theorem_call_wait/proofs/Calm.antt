@@ -10,7 +10,7 @@ use Rattle.charlotte_packets.specs.declared.picture.Picture.{Picture}
 use Rattle.kernel_sound.specs.Sound.{IsSound}
 use Rattle.kernel_step.specs.Kernel.{Kernel, Outcome}
 use Rattle.kernel_step.specs.declared.phase.Phase.TheVariants as kernel_phase
-use Rattle.kernel_world.specs.World.{World, Event, Calls, happens, outcome, adds_all}
+use Rattle.theorem_effects.specs.World.{World, Event, Calls, happens, outcome, adds_all}
 use Rattle.service_step.specs.State.{State}
 use Rattle.theorem_meaning.proofs.Plain.{right-few}
 use Rattle.theorem_meaning.specs.Invariant.{IsOfSetting, IsFew, AreRight, Invariant}

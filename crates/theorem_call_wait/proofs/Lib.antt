@@ -4,3 +4,14 @@ pub mod Waits
 pub mod Rested
 pub mod Given
 pub mod Reports
+pub use Rattle.theorem_effects.proofs.Allowed
+pub use Rattle.theorem_effects.proofs.Aside
+pub use Rattle.theorem_effects.proofs.Ends
+pub use Rattle.theorem_effects.proofs.Happens
+pub use Rattle.theorem_effects.proofs.Lists
+pub use Rattle.theorem_effects.proofs.NamedAfter
+pub use Rattle.theorem_effects.proofs.NamedParts
+pub use Rattle.theorem_effects.proofs.Packets
+pub use Rattle.theorem_effects.proofs.Sound
+pub use Rattle.theorem_effects.proofs.Sums
+pub use Rattle.theorem_effects.proofs.Values

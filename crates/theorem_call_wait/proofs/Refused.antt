@@ -27,7 +27,7 @@ use Rattle.kernel_step.specs.Actions.{here}
 use Rattle.kernel_step.specs.Calls as at_kernel
 use Rattle.kernel_step.specs.Kernel.{has_report, process_of}
 use Rattle.kernel_step.specs.declared.phase.Phase.TheVariants as kernel_phase
-use Rattle.kernel_world.specs.World.{World}
+use Rattle.theorem_effects.specs.World.{World}
 use Rattle.service_step.specs.Causes as in_service
 use Rattle.service_step.specs.Ends.{inward_activity, is_active, is_owned_by, outward_activity}
 use Rattle.service_step.specs.State.{State, is_running, next_at, next_link, counted}

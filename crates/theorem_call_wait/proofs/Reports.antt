@@ -26,7 +26,7 @@ use Rattle.kernel_step.specs.Calls.{refusal}
 use Rattle.kernel_step.specs.Kernel.{Kernel, Outcome, Process as KernelProcess, answers_wait, begins, call_step, closes, decides, has_report, inward_reported, join_answers, join_reports, next_stamp, outward_reported, performs, process_of, reported_entry, reported_view, waits, without_answer}
 use Rattle.kernel_step.specs.Progress.{means}
 use Rattle.kernel_step.specs.declared.phase.Phase.TheVariants as kernel_phase
-use Rattle.kernel_world.specs.World.{World, Event, Calls, adds_all, happens, outcome}
+use Rattle.theorem_effects.specs.World.{World, Event, Calls, adds_all, happens, outcome}
 use Rattle.service_change.proofs.Change.{idle-over}
 use Rattle.service_change.proofs.EndEq.{puts-at, puts-other}
 use Rattle.service_change.proofs.Facts.{busy-made, put_process-at, put_process-other}

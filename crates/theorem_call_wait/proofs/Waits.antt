@@ -10,7 +10,7 @@ use Rattle.kernel_step.specs.Calls.{refusal}
 use Rattle.kernel_step.specs.Kernel.{Kernel, Outcome, Process as KernelProcess, begins, call_step, closes, decides, has_report, join_answers, join_reports, next_stamp, performs, process_of, waits, without_answer}
 use Rattle.kernel_step.specs.Progress.{means}
 use Rattle.kernel_step.specs.declared.phase.Phase.TheVariants as kernel_phase
-use Rattle.kernel_world.specs.World.{World, Event, Calls, happens, outcome}
+use Rattle.theorem_effects.specs.World.{World, Event, Calls, happens, outcome}
 use Rattle.service_lawful.proofs.Turned.{turned, turned-consistent, turned-own, turned-other, turned-phase, turned-reports}
 use Rattle.service_step.specs.State.{State, Process}
 use Rattle.service_step.specs.declared.state.Phase.{Phase}

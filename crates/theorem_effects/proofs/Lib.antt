@@ -14,3 +14,11 @@ pub mod NamedAfter
 pub mod Clear
 pub mod ClearCalls
 pub mod Passed
+pub use Rattle.kernel_effects.proofs.Uses
+pub use Rattle.kernel_outcomes.proofs.Events
+pub use Rattle.kernel_outcomes.proofs.Sound
+pub use Rattle.theorem_meaning.proofs.Ends as TheoremMeaningEnds
+pub use Rattle.theorem_meaning.proofs.Frame
+pub use Rattle.theorem_meaning.proofs.Goes
+pub use Rattle.theorem_meaning.proofs.Plain
+pub use Rattle.theorem_meaning.proofs.Sums as TheoremMeaningSums

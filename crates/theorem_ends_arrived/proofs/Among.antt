@@ -7,10 +7,10 @@ use Rattle.charlotte_packets.specs.declared.picture.MovingPicture.{MovingPicture
 use Rattle.end_table.proofs.EndEq.{end_eq-refl, end_eq-same, end_eq-sym}
 use Rattle.end_table.specs.Place.{end_eq}
 use Rattle.end_table.specs.declared.entry.Entry.{Entry}
-use Rattle.kernel_effects.specs.Effect.{brings, stays}
+use Rattle.theorem_take_gone.specs.Effect.{brings, stays}
 use Rattle.kernel_step.specs.Rows.{ends_in}
-use Rattle.theorem_effects.proofs.Aside.{ends_in-there, not_among}
-use Rattle.theorem_effects.proofs.Lists.{first, first_or_later, later, none-there}
+use Rattle.theorem_take_gone.proofs.Aside.{ends_in-there, not_among}
+use Rattle.theorem_take_gone.proofs.Lists.{first, first_or_later, later, none-there}
 use Rattle.theorem_meaning.specs.Packets.{one_if, values_for}
 use Rattle.theorem_ends_arrived.specs.Arrived.{IsAmong}
 

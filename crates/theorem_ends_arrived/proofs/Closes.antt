@@ -12,8 +12,8 @@ use Rattle.charlotte_calls.specs.declared.names.Pid.{Pid}
 use Rattle.charlotte_packets.specs.declared.picture.Picture.{Picture}
 use Rattle.end_table.proofs.EndEq.{end_eq-refl, end_eq-same, put-at, put-other}
 use Rattle.end_table.specs.Place.{end_eq, put}
-use Rattle.kernel_effects.specs.Effect.{Effect}
-use Rattle.kernel_outcomes.specs.Closing.{process_after, told, told_entry}
+use Rattle.theorem_take_gone.specs.Effect.{Effect}
+use Rattle.theorem_take_gone.specs.Closing.{process_after, told, told_entry}
 use Rattle.kernel_sound.proofs.Reports.{IsSound-reported}
 use Rattle.kernel_sound.specs.Sound.{IsSound}
 use Rattle.kernel_step.specs.Kernel.{Process as KernelProcess, is_waiting, process_of, reported_entry}
@@ -26,15 +26,15 @@ use Rattle.service_step.specs.State as service
 use Rattle.service_step.specs.Steps.{IsServiceStep, after_report}
 use Rattle.service_step.specs.declared.state.End.{End}
 use Rattle.service_step.specs.declared.state.Phase.TheVariants as phase
-use Rattle.theorem_effects.proofs.Lists.{first}
-use Rattle.theorem_effects.specs.Change.{Change, Changes, Happens}
-use Rattle.theorem_effects.specs.Events.{taking}
+use Rattle.theorem_take_gone.proofs.Lists.{first}
+use Rattle.theorem_take_gone.specs.Change.{Change, Changes, Happens}
+use Rattle.theorem_take_gone.specs.Events.{taking}
 use Rattle.theorem_meaning.proofs.Goes.{Goes}
 use Rattle.theorem_meaning.specs.Invariant.{AreRight, Invariant}
 use Rattle.theorem_meaning.specs.Packets.{Links, links_of}
 use Rattle.theorem_meaning.specs.StandsFor.{AreLinksOf, IsProcessOf, home_of, service_phase}
-use Rattle.theorem_take_answer.proofs.Completed.{waiting-Waiting, waiting-service}
-use Rattle.theorem_take_answer.proofs.World.{processes-told, setting-after, sound-same}
+use Rattle.theorem_take_gone.proofs.Completed.{waiting-Waiting, waiting-service}
+use Rattle.theorem_take_gone.proofs.World.{processes-told, setting-after, sound-same}
 use Rattle.theorem_take_gone.proofs.Told.{told-links, told-process, told-process-other, told-right}
 
 module _ (i : ℕ) (w : World) (s : State) (is : Invariant i w s) (k from : ℕ) (q : Picture) (f : Effect) (p : Pid) (given : List Answer) (rs : List Report) (happened : Happens w (Takes k from) (taking w k from q f p given rs)) where

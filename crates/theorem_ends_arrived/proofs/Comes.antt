@@ -12,12 +12,12 @@ use Rattle.kernel_step.specs.Rows.{ends_in}
 use Rattle.kernel_world.specs.World.{World}
 use Rattle.service_step.specs.Ends.{is_made}
 use Rattle.service_step.specs.State.{State}
-use Rattle.theorem_effects.proofs.Allowed.{brings-different, same-values}
-use Rattle.theorem_effects.proofs.Happens.{only-changes}
+use Rattle.theorem_take_gone.proofs.Allowed.{brings-different, same-values}
+use Rattle.theorem_take_gone.proofs.Happens.{only-changes}
 use Rattle.theorem_meaning.specs.Invariant.{Invariant, is_message_of}
 use Rattle.theorem_meaning.specs.Packets.{values_of}
-use Rattle.theorem_take_answer.proofs.Meets.{stands-first}
-use Rattle.theorem_effects.proofs.Values.{all-coming}
+use Rattle.theorem_take_gone.proofs.Meets.{stands-first}
+use Rattle.theorem_take_gone.proofs.Values.{all-coming}
 use Rattle.theorem_ends_arrived.specs.Arrived.{IsAmong, IsLaden}
 use Rattle.theorem_ends_arrived.proofs.Coming.{inside, never-here}
 

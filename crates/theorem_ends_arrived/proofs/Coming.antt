@@ -26,20 +26,20 @@ use Rattle.service_step.specs.declared.state.End.{End}
 use Rattle.service_step.specs.declared.state.Message.{Message}
 use Rattle.service_step.specs.declared.state.Outward.TheVariants as outward
 use Rattle.service_step.specs.declared.state.Place.TheVariants as place
-use Rattle.theorem_effects.proofs.Allowed.{named-between, sum_over-least}
-use Rattle.theorem_effects.proofs.Lists.{none-there}
-use Rattle.theorem_effects.proofs.Packets.{left-before, left-was, taken-before, there-taken, under_way-before}
-use Rattle.theorem_effects.specs.Change.{Change, Changes, taken_at}
-use Rattle.theorem_effects.specs.Under.{IsLeft, IsTaken}
+use Rattle.theorem_take_gone.proofs.Allowed.{named-between, sum_over-least}
+use Rattle.theorem_take_gone.proofs.Lists.{none-there}
+use Rattle.theorem_take_gone.proofs.Packets.{left-before, left-was, taken-before, there-taken, under_way-before}
+use Rattle.theorem_take_gone.specs.Change.{Change, Changes, taken_at}
+use Rattle.theorem_take_gone.specs.Under.{IsLeft, IsTaken}
 use Rattle.theorem_meaning.proofs.Ends.{opposite-twice}
 use Rattle.theorem_meaning.specs.Fields.{Stand, At, Flying, HasFields, value_of}
 use Rattle.theorem_meaning.specs.Invariant.{IsMatchedAs, IsPacketRight, is_message_of}
 use Rattle.theorem_meaning.specs.Packets.{IsUnderWay, Links, how_many, one_if, sum_over, values_for, values_of}
 use Rattle.theorem_meaning.specs.StandsFor.{standing}
-use Rattle.theorem_take_silent.proofs.Alike.{some-same}
-use Rattle.theorem_take_silent.proofs.Places.{fields-here}
-use Rattle.theorem_take_answer.specs.Swapped.{instead, swapped}
-use Rattle.theorem_take_answer.proofs.Swap.{left-there, swapped-after, swapped-sum}
+use Rattle.theorem_take_gone.proofs.Alike.{some-same}
+use Rattle.theorem_take_gone.proofs.Places.{fields-here}
+use Rattle.theorem_take_gone.specs.Swapped.{instead, swapped}
+use Rattle.theorem_take_gone.proofs.Swap.{left-there, swapped-after, swapped-sum}
 use Rattle.theorem_meaning.proofs.Plain.{at_most_one}
 use Rattle.theorem_ends_arrived.specs.Arrived.{IsAmong, IsLaden, arrived, emptied, settles, unladen, without_values}
 use Rattle.theorem_ends_arrived.proofs.Among.{among-contains, among-least, among-told, brings-case, told-among}

@@ -34,20 +34,20 @@ use Rattle.service_step.specs.declared.state.Message.{Message}
 use Rattle.service_step.specs.declared.state.Outward.TheVariants as outward
 use Rattle.service_step.specs.declared.state.Phase.TheVariants as phase
 use Rattle.service_step.specs.declared.state.Place.TheVariants as place
-use Rattle.theorem_effects.proofs.Ends.{inward-same, outward-same}
-use Rattle.theorem_effects.proofs.Lists.{none-there}
-use Rattle.theorem_effects.proofs.Packets.{left-before, taken-there}
-use Rattle.theorem_effects.specs.Change.{Change, Changes, taken_at}
-use Rattle.theorem_effects.specs.Under.{IsLeft}
+use Rattle.theorem_take_gone.proofs.Ends.{inward-same, outward-same}
+use Rattle.theorem_take_gone.proofs.Lists.{none-there}
+use Rattle.theorem_take_gone.proofs.Packets.{left-before, taken-there}
+use Rattle.theorem_take_gone.specs.Change.{Change, Changes, taken_at}
+use Rattle.theorem_take_gone.specs.Under.{IsLeft}
 use Rattle.theorem_meaning.proofs.Ends.{opposite-twice}
 use Rattle.theorem_meaning.proofs.Sums.{over-change}
 use Rattle.theorem_meaning.specs.Fields.{At, Flying, HasFields, IsAskedAs, IsAsking, IsHeard, IsNews, IsNoMore, IsUnserved, IsUnwantOf}
 use Rattle.theorem_meaning.specs.Invariant.{AreAsked, AreCounted, AreMarked, AreNamed, AreRight, AreSentOnce, AreWanted, IsHonest, IsPacketRight, IsServed, NamesBelow, is_message_of, is_taken_of, is_unwanted_to}
 use Rattle.theorem_meaning.specs.Packets.{Each, IsBackOf, IsParcelFor, IsParcelOf, IsTakenOf, IsUnderWay, IsUnwantedOf, Links, how_many, one_if, over_kernels, sum_over, values_for, values_of}
 use Rattle.theorem_meaning.specs.StandsFor.{AreLinksOf, IsEndOf, IsInMessage, IsInwardOf, IsOutwardOf, IsOwnedHere, IsWaitingWith, home_of, standing}
-use Rattle.theorem_take_silent.proofs.Alike.{some-same}
-use Rattle.theorem_take_answer.specs.Swapped.{instead}
-use Rattle.theorem_take_answer.proofs.Swap.{swapped-each, swapped-sum}
+use Rattle.theorem_take_gone.proofs.Alike.{some-same}
+use Rattle.theorem_take_gone.specs.Swapped.{instead}
+use Rattle.theorem_take_gone.proofs.Swap.{swapped-each, swapped-sum}
 use Rattle.theorem_meaning.proofs.Plain.{holder-same, none-in, owner-same}
 use Rattle.theorem_ends_arrived.specs.Arrived.{IsAmong, IsLaden, emptied, settles, without_values}
 use Rattle.theorem_ends_arrived.proofs.Among.{among-none, contains-among, each-value, told-among}

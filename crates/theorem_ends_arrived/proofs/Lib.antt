@@ -8,3 +8,10 @@ pub mod Closes
 pub mod Tells
 pub mod Owned
 pub mod Comes
+pub use Rattle.theorem_take_gone.proofs.Dropped
+pub use Rattle.theorem_take_gone.proofs.Freed
+pub use Rattle.theorem_take_gone.proofs.Gone
+pub use Rattle.theorem_take_gone.proofs.Meets
+pub use Rattle.theorem_take_gone.proofs.Notices
+pub use Rattle.theorem_take_gone.proofs.Swap
+pub use Rattle.theorem_take_gone.proofs.Turned

@@ -12,21 +12,21 @@ use Rattle.kernel_step.specs.Actions.{is_withdrawing}
 use Rattle.service_change.proofs.Change.{living-made}
 use Rattle.service_step.specs.Ends.{is_made}
 use Rattle.service_step.specs.State.{State}
-use Rattle.theorem_effects.proofs.Aside.{sent-each}
-use Rattle.theorem_effects.proofs.Ends.{all_sent-weaker}
-use Rattle.theorem_effects.proofs.Packets.{left-was, under_way-after, under_way-was}
-use Rattle.theorem_effects.specs.Change.{Change, Changes}
-use Rattle.theorem_effects.specs.Sums.{AllSent}
-use Rattle.theorem_effects.specs.Under.{IsLeft, IsSent}
+use Rattle.theorem_take_gone.proofs.Aside.{sent-each}
+use Rattle.theorem_take_gone.proofs.Ends.{all_sent-weaker}
+use Rattle.theorem_take_gone.proofs.Packets.{left-was, under_way-after, under_way-was}
+use Rattle.theorem_take_gone.specs.Change.{Change, Changes}
+use Rattle.theorem_take_gone.specs.Sums.{AllSent}
+use Rattle.theorem_take_gone.specs.Under.{IsLeft, IsSent}
 use Rattle.theorem_meaning.proofs.Ends.{opposite-twice}
 use Rattle.theorem_meaning.specs.Fields.{Stand, At, Flying, HasFields, IsAsking, IsHeard, IsNews, IsNoMore, IsUnserved, IsUnwantOf, value_of}
 use Rattle.theorem_meaning.specs.Invariant.{AreRight, AreWanted, NamesBelow}
 use Rattle.theorem_meaning.specs.Packets.{Links}
 use Rattle.theorem_meaning.specs.StandsFor.{AreLinksOf}
-use Rattle.theorem_take_silent.specs.Quiet.{IsQuiet, IsQuietly, IsSentWell, is_telling}
-use Rattle.theorem_take_silent.proofs.Alike.{IsQuietly-same}
-use Rattle.theorem_take_silent.proofs.Clauses.{flying-was, links-still, right-still}
-use Rattle.theorem_take_silent.proofs.Places.{fields-here, here-living}
+use Rattle.theorem_take_gone.specs.Quiet.{IsQuiet, IsQuietly, IsSentWell, is_telling}
+use Rattle.theorem_take_gone.proofs.Alike.{IsQuietly-same}
+use Rattle.theorem_take_gone.proofs.Clauses.{flying-was, links-still, right-still}
+use Rattle.theorem_take_gone.proofs.Places.{fields-here, here-living}
 use Rattle.theorem_meaning.proofs.Plain.{there-here}
 use Rattle.theorem_ends_arrived.specs.Arrived.{IsTrueMove}
 

@@ -18,9 +18,9 @@ use Rattle.theorem_meaning.specs.Fields.{Flying}
 use Rattle.theorem_meaning.specs.Invariant.{Invariant}
 use Rattle.theorem_meaning.specs.Packets.{IsBackOf, IsParcelOf, IsUnderWay, links_of, values_of}
 use Rattle.theorem_meaning.specs.StandsFor.{IsInMessage, home_of}
-use Rattle.theorem_take_silent.proofs.Alike.{some-same}
-use Rattle.theorem_take_silent.proofs.Places.{fields-here, here-kernel, here-living}
-use Rattle.theorem_take_answer.proofs.Meets.{IsOwnedAt, owned-at, same-kernel}
+use Rattle.theorem_take_gone.proofs.Alike.{some-same}
+use Rattle.theorem_take_gone.proofs.Places.{fields-here, here-kernel, here-living}
+use Rattle.theorem_take_gone.proofs.Meets.{IsOwnedAt, owned-at, same-kernel}
 use Rattle.theorem_meaning.proofs.Plain.{there-here}
 use Rattle.theorem_ends_arrived.proofs.Among.{contains-among}
 

@@ -12,22 +12,22 @@ use Rattle.end_table.specs.Table.{IsHere, IsHereAnd}
 use Rattle.end_table.specs.declared.entry.Entry.{Entry}
 use Rattle.end_table.specs.declared.entry.Entry.TheVariants as entry
 use Rattle.end_table.specs.declared.entry.Holder.TheVariants as holder
-use Rattle.kernel_effects.proofs.Folds.{brings-others}
-use Rattle.kernel_effects.proofs.Uses.{arrival-each}
-use Rattle.kernel_effects.specs.Actions.{arrival_packets}
-use Rattle.kernel_effects.specs.Effect.{stays}
+use Rattle.theorem_take_gone.proofs.Folds.{brings-others}
+use Rattle.theorem_take_gone.proofs.Uses.{arrival-each}
+use Rattle.theorem_take_gone.specs.Actions.{arrival_packets}
+use Rattle.theorem_take_gone.specs.Effect.{stays}
 use Rattle.kernel_sound.proofs.Put.{IsFreeFor-away, put-sound-quiet}
 use Rattle.kernel_sound.proofs.Values.{AreComing}
 use Rattle.kernel_sound.specs.Sound.{IsSound}
 use Rattle.kernel_step.proofs.Folds.{AreDifferent}
 use Rattle.kernel_step.specs.Rows.{ends_in}
-use Rattle.theorem_effects.proofs.Aside.{ends_in-there, not_among}
-use Rattle.theorem_effects.proofs.Lists.{first, first_or_later, later, none-there}
-use Rattle.theorem_effects.proofs.Values.{packets-each}
-use Rattle.theorem_effects.specs.Sums.{AllSent}
+use Rattle.theorem_take_gone.proofs.Aside.{ends_in-there, not_among}
+use Rattle.theorem_take_gone.proofs.Lists.{first, first_or_later, later, none-there}
+use Rattle.theorem_take_gone.proofs.Values.{packets-each}
+use Rattle.theorem_take_gone.specs.Sums.{AllSent}
 use Rattle.theorem_meaning.proofs.Ends.{opposite-twice}
 use Rattle.theorem_meaning.specs.Packets.{Links}
-use Rattle.theorem_take_answer.proofs.World.{sound-same}
+use Rattle.theorem_take_gone.proofs.World.{sound-same}
 use Rattle.theorem_ends_arrived.specs.Arrived.{IsTrueMove, settles}
 
 -- what is true of each value that stands there, one after the other

@@ -15,14 +15,14 @@ use Rattle.end_table.specs.Table.{IsHereAnd}
 use Rattle.end_table.specs.declared.entry.Entry.{Entry}
 use Rattle.end_table.specs.declared.entry.Entry.TheVariants as entry
 use Rattle.end_table.specs.declared.entry.Holder.TheVariants as holder
-use Rattle.kernel_effects.specs.Effect.{brings, stays}
+use Rattle.theorem_take_gone.specs.Effect.{brings, stays}
 use Rattle.service_lawful.specs.Consistent.{IsConsistent}
 use Rattle.service_step.specs.State.{State}
 use Rattle.service_step.specs.declared.state.End.{End}
 use Rattle.service_step.specs.declared.state.Outward.{Outward}
 use Rattle.service_step.specs.declared.state.Outward.TheVariants as outward
 use Rattle.service_step.specs.declared.state.Place.TheVariants as place
-use Rattle.theorem_effects.specs.Change.{Change, Changes}
+use Rattle.theorem_take_gone.specs.Change.{Change, Changes}
 use Rattle.theorem_meaning.specs.Invariant.{AreRight, is_message_of}
 use Rattle.theorem_meaning.specs.Packets.{Links}
 use Rattle.theorem_meaning.specs.StandsFor.{AreLinksOf}

@@ -26,15 +26,15 @@ use Rattle.service_step.specs.declared.state.Outward.{Outward}
 use Rattle.service_step.specs.declared.state.Outward.TheVariants as outward
 use Rattle.service_step.specs.declared.state.Place.TheVariants as place
 use Rattle.theorem_take_silent.proofs.Places.{list-below}
-use Rattle.theorem_effects.proofs.Allowed.{sum_over-least}
-use Rattle.theorem_effects.proofs.Aside.{sent-each}
-use Rattle.theorem_effects.proofs.Ends.{all_sent-weaker}
-use Rattle.theorem_effects.proofs.NamedAfter.{named-after}
-use Rattle.theorem_effects.proofs.Packets.{each-after, left-after, left-before}
-use Rattle.theorem_effects.proofs.Sums.{sum_over-after, sum_over-same}
-use Rattle.theorem_effects.specs.Change.{Change, Changes}
-use Rattle.theorem_effects.specs.Named.{IsSentWithin}
-use Rattle.theorem_effects.specs.Sums.{AllSent, IsWithin, sum_sent, sum_taken}
+use Rattle.theorem_take_silent.proofs.Allowed.{sum_over-least}
+use Rattle.theorem_take_silent.proofs.Aside.{sent-each}
+use Rattle.theorem_take_silent.proofs.Ends.{all_sent-weaker}
+use Rattle.theorem_take_silent.proofs.NamedAfter.{named-after}
+use Rattle.theorem_take_silent.proofs.Packets.{each-after, left-after, left-before}
+use Rattle.theorem_take_silent.proofs.Sums.{sum_over-after, sum_over-same}
+use Rattle.theorem_take_silent.specs.Change.{Change, Changes}
+use Rattle.theorem_take_silent.specs.Named.{IsSentWithin}
+use Rattle.theorem_take_silent.specs.Sums.{AllSent, IsWithin, sum_sent, sum_taken}
 use Rattle.theorem_meaning.proofs.Ends.{opposite-twice}
 use Rattle.theorem_meaning.specs.Fields.{Stand, HasFields, IsAskedAs, IsAsking, IsUnserved, IsUnwantOf}
 use Rattle.theorem_meaning.specs.Invariant.{AreAsked, AreCancelling, AreCounted, AreMarked, AreNamed, AreRight, AreSentOnce, AreWanted, IsFew, IsHereIfLiving, IsHonest, IsPacketRight, IsServed, IsUnwantedOnce, IsVoidRight, NamesBelow, is_message_of, is_taken_of, is_unwanted_to}

@@ -24,16 +24,16 @@ use Rattle.service_step.specs.declared.state.Place.{Place}
 use Rattle.service_step.specs.declared.state.Place.TheVariants as place
 use Rattle.theorem_take_silent.proofs.Alike.{some-same}
 use Rattle.theorem_take_silent.proofs.Places.{fields-here, list-below}
-use Rattle.theorem_effects.proofs.Allowed.{sum_over-least}
-use Rattle.theorem_effects.proofs.Aside.{entry-same, fields-same, sent-each}
-use Rattle.theorem_effects.proofs.Ends.{all_sent-weaker, taken-weaker}
-use Rattle.theorem_effects.proofs.Lists.{first_or_later, none-there}
-use Rattle.theorem_effects.proofs.Packets.{left-after, left-before, under_way-after, under_way-still, under_way-was}
-use Rattle.theorem_effects.proofs.Sums.{standing-after}
-use Rattle.theorem_effects.specs.Aside.{IsUnbrought}
-use Rattle.theorem_effects.specs.Change.{Change, Changes}
-use Rattle.theorem_effects.specs.Sums.{AllSent, IsWithin, sum_sent}
-use Rattle.theorem_effects.specs.Under.{IsLeft, IsSent, IsTaken}
+use Rattle.theorem_take_silent.proofs.Allowed.{sum_over-least}
+use Rattle.theorem_take_silent.proofs.Aside.{entry-same, fields-same, sent-each}
+use Rattle.theorem_take_silent.proofs.Ends.{all_sent-weaker, taken-weaker}
+use Rattle.theorem_take_silent.proofs.Lists.{first_or_later, none-there}
+use Rattle.theorem_take_silent.proofs.Packets.{left-after, left-before, under_way-after, under_way-still, under_way-was}
+use Rattle.theorem_take_silent.proofs.Sums.{standing-after}
+use Rattle.theorem_take_silent.specs.Aside.{IsUnbrought}
+use Rattle.theorem_take_silent.specs.Change.{Change, Changes}
+use Rattle.theorem_take_silent.specs.Sums.{AllSent, IsWithin, sum_sent}
+use Rattle.theorem_take_silent.specs.Under.{IsLeft, IsSent, IsTaken}
 use Rattle.theorem_meaning.proofs.Ends.{eq-same}
 use Rattle.theorem_meaning.specs.Fields.{Stand, At, Flying, HasFields, IsHeard, IsNews, IsNoMore, value_of}
 use Rattle.theorem_meaning.specs.Invariant.{AreMarked, AreNamed}

@@ -14,10 +14,10 @@ use Rattle.service_step.specs.declared.state.Inward.{Inward}
 use Rattle.service_step.specs.declared.state.Outward.{Outward}
 use Rattle.service_step.specs.declared.state.Place.{Place}
 use Rattle.service_step.specs.declared.state.Place.TheVariants as place
-use Rattle.theorem_effects.proofs.Aside.{brought-same, in_message-same}
-use Rattle.theorem_effects.proofs.Ends.{inward-same, outward-same, standing-same}
-use Rattle.theorem_effects.specs.Change.{Change, Changes}
-use Rattle.theorem_effects.specs.Sums.{IsWithin}
+use Rattle.theorem_take_silent.proofs.Aside.{brought-same, in_message-same}
+use Rattle.theorem_take_silent.proofs.Ends.{inward-same, outward-same, standing-same}
+use Rattle.theorem_take_silent.specs.Change.{Change, Changes}
+use Rattle.theorem_take_silent.specs.Sums.{IsWithin}
 use Rattle.theorem_meaning.specs.Invariant.{AreMarked, AreNamed}
 use Rattle.theorem_meaning.specs.Packets.{IsBackOf, IsParcelFor, IsParcelOf, IsTakenOf, IsUnwantedOf, Links, one_if, values_of}
 use Rattle.theorem_meaning.specs.StandsFor.{AreLinksOf, IsEndOf, IsInMessage, IsInwardOf, IsOutwardOf, IsOwnedHere, IsWaitingWith, entry_at, home_of, standing}

@@ -19,9 +19,9 @@ use Rattle.service_step.specs.declared.state.Message.{Message}
 use Rattle.service_step.specs.declared.state.Outward.TheVariants as outward
 use Rattle.service_step.specs.declared.state.Phase.TheVariants as phase
 use Rattle.service_step.specs.declared.state.Place.TheVariants as place
-use Rattle.theorem_effects.specs.Aside.{IsKept}
-use Rattle.theorem_effects.specs.Change.{Change}
-use Rattle.theorem_effects.specs.Sums.{AllSent, sum_taken}
+use Rattle.theorem_take_silent.specs.Aside.{IsKept}
+use Rattle.theorem_take_silent.specs.Change.{Change}
+use Rattle.theorem_take_silent.specs.Sums.{AllSent, sum_taken}
 use Rattle.theorem_meaning.specs.Fields.{Stand, At, Flying, HasFields}
 use Rattle.theorem_meaning.specs.Invariant.{is_message_of}
 use Rattle.theorem_meaning.specs.Packets.{Links, one_if, values_for, values_of}

@@ -6,3 +6,7 @@ pub mod SentLinks
 pub mod Match
 pub mod Wants
 pub mod Sends
+pub use Rattle.theorem_take_want.proofs.Alike
+pub use Rattle.theorem_take_want.proofs.Places
+pub use Rattle.theorem_take_want.proofs.Sound
+pub use Rattle.theorem_take_want.proofs.World

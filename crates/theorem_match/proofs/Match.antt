@@ -30,13 +30,13 @@ use Rattle.service_step.specs.State.{State}
 use Rattle.service_step.specs.Steps.{IsServiceStep}
 use Rattle.service_step.specs.declared.state.Place.{Place}
 use Rattle.service_step.specs.declared.state.Place.TheVariants as place
-use Rattle.theorem_effects.specs.Change.{Change, Changes}
+use Rattle.theorem_call_send.specs.Change.{Change, Changes}
 use Rattle.theorem_meaning.proofs.Ends.{opposite-apart}
 use Rattle.theorem_meaning.specs.Fields.{Stand, At, Flying, HasFields, IsAskedAs, IsUnserved, value_of}
 use Rattle.theorem_meaning.specs.Invariant.{AreRight}
 use Rattle.theorem_meaning.specs.Packets.{Links}
 use Rattle.theorem_meaning.specs.StandsFor.{AreLinksOf, entry_at}
-use Rattle.theorem_take_silent.proofs.Places.{fields-here, here-living}
+use Rattle.theorem_take_want.proofs.Places.{fields-here, here-living}
 use Rattle.theorem_take_want.specs.Anew.{IsAnew, IsLike}
 use Rattle.theorem_take_want.proofs.Anew.{fields-was}
 use Rattle.theorem_take_want.proofs.Asked.{had, opened}

@@ -28,17 +28,17 @@ use Rattle.service_step.specs.declared.state.Inward.TheVariants as inward
 use Rattle.service_step.specs.declared.state.Outward.{Outward}
 use Rattle.service_step.specs.declared.state.Outward.TheVariants as outward
 use Rattle.service_step.specs.declared.state.Place.TheVariants as place
-use Rattle.theorem_effects.proofs.Aside.{not_among}
-use Rattle.theorem_effects.proofs.Lists.{only-there}
-use Rattle.theorem_effects.proofs.Packets.{left-was, under_way-after, under_way-still}
-use Rattle.theorem_effects.specs.Change.{Change, Changes}
-use Rattle.theorem_effects.specs.Under.{IsLeft, IsSent}
+use Rattle.theorem_call_send.proofs.Aside.{not_among}
+use Rattle.theorem_call_send.proofs.Lists.{only-there}
+use Rattle.theorem_call_send.proofs.Packets.{left-was, under_way-after, under_way-still}
+use Rattle.theorem_call_send.specs.Change.{Change, Changes}
+use Rattle.theorem_call_send.specs.Under.{IsLeft, IsSent}
 use Rattle.theorem_meaning.proofs.Ends.{eq-same}
 use Rattle.theorem_meaning.specs.Fields.{Stand, At, Flying, HasFields, value_of}
 use Rattle.theorem_meaning.specs.Invariant.{AreRight}
 use Rattle.theorem_meaning.specs.Packets.{IsUnderWay, Links, values_of}
 use Rattle.theorem_meaning.specs.StandsFor.{AreLinksOf, entry_at}
-use Rattle.theorem_take_silent.proofs.Places.{here-kernel}
+use Rattle.theorem_take_want.proofs.Places.{here-kernel}
 use Rattle.theorem_take_want.proofs.Anew.{view_or}
 use Rattle.theorem_take_want.proofs.Matched.{matched-away, matched-other, matched-own}
 use Rattle.theorem_meaning.proofs.Plain.{there-here}

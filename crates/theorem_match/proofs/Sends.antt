@@ -40,20 +40,20 @@ use Rattle.service_lawful.specs.Consistent.{IsConsistent}
 use Rattle.service_step.specs.Ends.{matches}
 use Rattle.service_step.specs.State.{State}
 use Rattle.service_step.specs.Steps.{IsServiceStep}
-use Rattle.theorem_effects.proofs.Allowed.{performs-allowed}
-use Rattle.theorem_effects.proofs.Aside.{not_among}
-use Rattle.theorem_effects.proofs.Lists.{first, later}
-use Rattle.theorem_effects.proofs.NamedParts.{hint-below}
-use Rattle.theorem_effects.specs.Change.{Change, Changes, Happens}
-use Rattle.theorem_effects.specs.Events.{calling}
+use Rattle.theorem_call_send.proofs.Allowed.{performs-allowed}
+use Rattle.theorem_call_send.proofs.Aside.{not_among}
+use Rattle.theorem_call_send.proofs.Lists.{first, later}
+use Rattle.theorem_call_send.proofs.NamedParts.{hint-below}
+use Rattle.theorem_call_send.specs.Change.{Change, Changes, Happens}
+use Rattle.theorem_call_send.specs.Events.{calling}
 use Rattle.theorem_meaning.proofs.Goes.{Goes}
 use Rattle.theorem_meaning.specs.Fields.{Stand, HasFields}
 use Rattle.theorem_meaning.specs.Invariant.{AreRight, Invariant, IsFew, NamesBelow}
 use Rattle.theorem_meaning.specs.Packets.{Links, links_of}
 use Rattle.theorem_meaning.specs.StandsFor.{AreLinksOf, entry_at, home_of}
 use Rattle.theorem_take_want.proofs.Parts.{between, first-part, last-part}
-use Rattle.theorem_call_begin.proofs.Answered.{IsGranted, granted-on, processes-after, setting-called}
-use Rattle.theorem_call_begin.proofs.Receives.{home-near}
+use Rattle.theorem_call_send.proofs.Answered.{IsGranted, granted-on, processes-after, setting-called}
+use Rattle.theorem_call_send.proofs.Receives.{home-near}
 use Rattle.theorem_call_send.specs.Begun.{IsBeginning, begun}
 use Rattle.theorem_call_send.specs.Regrouped.{is_among}
 use Rattle.theorem_call_send.proofs.Begun.{begun-few, begun-links, begun-right, beginning}

@@ -32,12 +32,12 @@ use Rattle.service_step.specs.declared.state.Message.{Message}
 use Rattle.service_step.specs.declared.state.Outward.{Outward}
 use Rattle.service_step.specs.declared.state.Place.{Place}
 use Rattle.service_step.specs.declared.state.Place.TheVariants as place
-use Rattle.theorem_effects.proofs.Aside.{not_among}
-use Rattle.theorem_effects.proofs.Ends.{inward-same, outward-same}
-use Rattle.theorem_effects.proofs.Lists.{first}
-use Rattle.theorem_effects.proofs.Packets.{under_way-sent}
-use Rattle.theorem_effects.proofs.Sums.{standing-after}
-use Rattle.theorem_effects.specs.Change.{Change, Changes}
+use Rattle.theorem_call_send.proofs.Aside.{not_among}
+use Rattle.theorem_call_send.proofs.Ends.{inward-same, outward-same}
+use Rattle.theorem_call_send.proofs.Lists.{first}
+use Rattle.theorem_call_send.proofs.Packets.{under_way-sent}
+use Rattle.theorem_call_send.proofs.Sums.{standing-after}
+use Rattle.theorem_call_send.specs.Change.{Change, Changes}
 use Rattle.theorem_meaning.proofs.Ends.{opposite-twice}
 use Rattle.theorem_meaning.proofs.Plain.{taken-passes}
 use Rattle.theorem_meaning.specs.Fields.{IsAskedAs}

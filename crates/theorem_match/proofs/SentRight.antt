@@ -23,18 +23,18 @@ use Rattle.service_step.specs.declared.state.Message.{Message}
 use Rattle.service_step.specs.declared.state.Outward.{Outward}
 use Rattle.service_step.specs.declared.state.Outward.TheVariants as outward
 use Rattle.service_step.specs.declared.state.Place.{Place}
-use Rattle.theorem_effects.proofs.Lists.{only-there}
-use Rattle.theorem_effects.proofs.NamedAfter.{named-after}
-use Rattle.theorem_effects.proofs.NamedParts.{left_of-names, leaving-named, named-values, puts-names, stays-names, turns-names}
-use Rattle.theorem_effects.proofs.Packets.{each-after}
-use Rattle.theorem_effects.proofs.Sums.{sum_over-after}
-use Rattle.theorem_effects.specs.Change.{Change, Changes}
+use Rattle.theorem_call_send.proofs.Lists.{only-there}
+use Rattle.theorem_call_send.proofs.NamedAfter.{named-after}
+use Rattle.theorem_call_send.proofs.NamedParts.{left_of-names, leaving-named, named-values, puts-names, stays-names, turns-names}
+use Rattle.theorem_call_send.proofs.Packets.{each-after}
+use Rattle.theorem_call_send.proofs.Sums.{sum_over-after}
+use Rattle.theorem_call_send.specs.Change.{Change, Changes}
 use Rattle.theorem_meaning.proofs.Ends.{opposite-twice}
 use Rattle.theorem_meaning.specs.Fields.{Stand, At, HasFields, IsAskedAs, IsAsking, IsNews, IsUnserved, IsUnwantOf}
 use Rattle.theorem_meaning.specs.Invariant.{AreNamed, AreRight, AreSentOnce, AreWanted, IsPacketRight, IsParcelRight, IsServed, IsUnwantedOnce, NamesBelow, is_message_of, is_taken_of, is_unwanted_to}
 use Rattle.theorem_meaning.specs.Packets.{Each, IsUnderWay, Links, how_many, one_if}
 use Rattle.theorem_meaning.specs.StandsFor.{AreLinksOf, entry_at}
-use Rattle.theorem_take_silent.proofs.Places.{fields-here}
+use Rattle.theorem_take_want.proofs.Places.{fields-here}
 use Rattle.theorem_match.specs.Carrying.{IsCarrying}
 use Rattle.theorem_match.specs.Sending.{IsSending, departing}
 use Rattle.theorem_match.proofs.Carrying.{asked-carried, busy, cancelling-carried, counted-carried, few-carried, fields-was, honest-carried, marked-carried, noticed-same, place-same, right-carried, seen, served-carried, sent-same, still, wanted-carried}

@@ -19,8 +19,8 @@ use Rattle.kernel_sound.specs.Sound.{AreHeldBy}
 use Rattle.kernel_step.proofs.Folds.{AreDifferent}
 use Rattle.kernel_step.specs.Actions.{here, value_leaving, values_leaving}
 use Rattle.kernel_step.specs.Rows.{ends_in}
-use Rattle.theorem_effects.proofs.Allowed.{sum_over-least}
-use Rattle.theorem_effects.proofs.Lists.{first, first_or_later, later, none-there, only-there}
+use Rattle.theorem_call_send.proofs.Allowed.{sum_over-least}
+use Rattle.theorem_call_send.proofs.Lists.{first, first_or_later, later, none-there, only-there}
 use Rattle.theorem_meaning.specs.Invariant.{AreNamed}
 use Rattle.theorem_meaning.specs.Packets.{IsUnderWay, Links, how_many, one_if, values_for}
 use Rattle.service_step.specs.declared.state.End.{End}

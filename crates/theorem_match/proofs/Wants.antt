@@ -26,26 +26,26 @@ use Rattle.service_lawful.specs.Consistent.{IsConsistent}
 use Rattle.service_step.specs.Ends.{is_living, is_made, matches}
 use Rattle.service_step.specs.State.{State}
 use Rattle.service_step.specs.Steps.{IsServiceStep}
-use Rattle.theorem_effects.proofs.Lists.{first}
-use Rattle.theorem_effects.proofs.NamedParts.{hint-below, learned-named}
-use Rattle.theorem_effects.specs.Change.{Change, Changes, Happens}
-use Rattle.theorem_effects.specs.Events.{taking}
-use Rattle.theorem_effects.specs.Under.{IsTaken}
+use Rattle.theorem_call_send.proofs.Lists.{first}
+use Rattle.theorem_call_send.proofs.NamedParts.{hint-below, learned-named}
+use Rattle.theorem_call_send.specs.Change.{Change, Changes, Happens}
+use Rattle.theorem_call_send.specs.Events.{taking}
+use Rattle.theorem_call_send.specs.Under.{IsTaken}
 use Rattle.theorem_meaning.proofs.Ends.{opposite-twice}
 use Rattle.theorem_meaning.proofs.Goes.{Goes}
 use Rattle.theorem_meaning.specs.Fields.{Stand, At, HasFields, IsNews, IsUnserved, value_of}
 use Rattle.theorem_meaning.specs.Invariant.{AreRight, Invariant, IsFew, NamesBelow}
 use Rattle.theorem_meaning.specs.Packets.{Links, links_of}
 use Rattle.theorem_meaning.specs.StandsFor.{AreLinksOf, entry_at}
-use Rattle.theorem_take_silent.proofs.Clauses.{fields-was, links-still}
-use Rattle.theorem_take_silent.proofs.Hearing.{IsHearing, hears, learns-so}
-use Rattle.theorem_take_silent.proofs.Learning.{learning-right}
-use Rattle.theorem_take_silent.proofs.Rows.{IsTable}
-use Rattle.theorem_take_silent.proofs.Sound.{takes-sound}
-use Rattle.theorem_take_silent.proofs.Taking.{happens-so, table-is, taken-well}
-use Rattle.theorem_take_silent.specs.Learning.{IsLearning}
-use Rattle.theorem_take_silent.specs.Quiet.{IsQuiet}
-use Rattle.theorem_take_silent.specs.Silent.{IsStill}
+use Rattle.theorem_take_want.proofs.Clauses.{fields-was, links-still}
+use Rattle.theorem_take_want.proofs.Hearing.{IsHearing, hears, learns-so}
+use Rattle.theorem_take_want.proofs.Learning.{learning-right}
+use Rattle.theorem_take_want.proofs.Rows.{IsTable}
+use Rattle.theorem_take_want.proofs.Sound.{takes-sound}
+use Rattle.theorem_take_want.proofs.Taking.{happens-so, table-is, taken-well}
+use Rattle.theorem_take_want.specs.Learning.{IsLearning}
+use Rattle.theorem_take_want.specs.Quiet.{IsQuiet}
+use Rattle.theorem_take_want.specs.Silent.{IsStill}
 use Rattle.theorem_take_want.proofs.Asked.{opened, unserved}
 use Rattle.theorem_take_want.proofs.Parts.{between, first-part, last-part, taking_last}
 use Rattle.theorem_take_want.proofs.Unwanting.{news-voided}

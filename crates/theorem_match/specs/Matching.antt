@@ -14,7 +14,7 @@ use Rattle.kernel_sound.specs.Sound.{AreHeldBy}
 use Rattle.kernel_step.specs.Actions.{values_leaving}
 use Rattle.service_step.specs.Ends.{is_living}
 use Rattle.service_step.specs.State.{State}
-use Rattle.theorem_effects.specs.Change.{Change}
+use Rattle.theorem_call_send.specs.Change.{Change}
 use Rattle.theorem_meaning.specs.Fields.{IsUnserved}
 use Rattle.theorem_meaning.specs.Packets.{Links}
 use Rattle.theorem_meaning.specs.StandsFor.{entry_at}

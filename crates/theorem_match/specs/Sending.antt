@@ -18,7 +18,7 @@ use Rattle.service_step.specs.State.{State}
 use Rattle.service_step.specs.declared.state.Inward.TheVariants as inward
 use Rattle.service_step.specs.declared.state.Outward.TheVariants as outward
 use Rattle.service_step.specs.declared.state.Place.TheVariants as place
-use Rattle.theorem_effects.specs.Change.{Change}
+use Rattle.theorem_call_send.specs.Change.{Change}
 use Rattle.theorem_meaning.specs.Fields.{IsAskedAs, IsUnserved}
 use Rattle.theorem_meaning.specs.Packets.{Links}
 use Rattle.theorem_meaning.specs.StandsFor.{entry_at}

@@ -2,3 +2,5 @@ pub mod Packets
 pub mod StandsFor
 pub mod Fields
 pub mod Invariant
+pub use Rattle.kernel_world.specs.Run
+pub use Rattle.kernel_world.specs.World

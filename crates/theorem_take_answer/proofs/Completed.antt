@@ -17,9 +17,9 @@ use Rattle.end_table.specs.declared.entry.Entry.TheVariants as entry
 use Rattle.end_table.specs.declared.entry.HereView.{HereView}
 use Rattle.end_table.specs.declared.entry.Outward.{Outward as KernelOutward}
 use Rattle.end_table.specs.declared.entry.Outward.TheVariants as kernel_outward
-use Rattle.kernel_effects.specs.Effect.{Effect, for_holder}
-use Rattle.kernel_effects.specs.Rows.{completes_effect, taken_effect}
-use Rattle.kernel_outcomes.specs.Closing.{told_entry}
+use Rattle.theorem_take_silent.specs.Effect.{Effect, for_holder}
+use Rattle.theorem_take_silent.specs.Rows.{completes_effect, taken_effect}
+use Rattle.theorem_take_silent.specs.Closing.{told_entry}
 use Rattle.kernel_sound.proofs.Actions.{learned-end}
 use Rattle.kernel_sound.specs.Sound.{IsHeldWell, IsSound}
 use Rattle.kernel_step.specs.Actions.{enclosed_of, is_withdrawing, learned_view, send_report}
@@ -27,7 +27,7 @@ use Rattle.kernel_step.specs.Kernel.{Process as KernelProcess, is_waiting, repor
 use Rattle.kernel_step.specs.Rows.{awaits, is_matched}
 use Rattle.kernel_step.specs.declared.phase.Phase.{Phase as KernelPhase}
 use Rattle.kernel_step.specs.declared.phase.Phase.TheVariants as kernel_phase
-use Rattle.kernel_world.specs.World.{World, Takes, happens}
+use Rattle.theorem_meaning.specs.World.{World, Takes, happens}
 use Rattle.service_change.proofs.EndEq.{puts-at, puts-other}
 use Rattle.service_consistent.proofs.Laws.{consistent_after}
 use Rattle.service_step.specs.Ends.{idles, is_living, is_made, is_taken, matched_message, owner, turns_outward}
@@ -38,10 +38,10 @@ use Rattle.service_step.specs.declared.state.End.{End}
 use Rattle.service_step.specs.declared.state.Outward.{Outward}
 use Rattle.service_step.specs.declared.state.Outward.TheVariants as outward
 use Rattle.service_step.specs.declared.state.Phase.TheVariants as phase
-use Rattle.theorem_effects.proofs.Allowed.{are-oldest, takes-allowed}
-use Rattle.theorem_effects.proofs.Ends.{inward-same}
-use Rattle.theorem_effects.specs.Change.{Happens}
-use Rattle.theorem_effects.specs.Events.{taking}
+use Rattle.theorem_take_silent.proofs.Allowed.{are-oldest, takes-allowed}
+use Rattle.theorem_take_silent.proofs.Ends.{inward-same}
+use Rattle.theorem_take_silent.specs.Change.{Happens}
+use Rattle.theorem_take_silent.specs.Events.{taking}
 use Rattle.theorem_meaning.proofs.Ends.{eq-same}
 use Rattle.theorem_meaning.proofs.Goes.{Goes}
 use Rattle.theorem_meaning.proofs.Plain.{taken-passes, there-here}

@@ -15,19 +15,19 @@ use Rattle.end_table.specs.declared.entry.Entry.TheVariants as entry
 use Rattle.end_table.specs.declared.entry.HereView.{HereView}
 use Rattle.end_table.specs.declared.entry.Inward.{Inward as KernelInward}
 use Rattle.end_table.specs.declared.entry.Inward.TheVariants as kernel_inward
-use Rattle.kernel_effects.specs.Effect.{nothing}
-use Rattle.kernel_effects.specs.Rows.{frees_effect, row_effect, taken_effect, unwanted_effect, unwanted_here_effect}
+use Rattle.theorem_take_silent.specs.Effect.{nothing}
+use Rattle.theorem_take_silent.specs.Rows.{frees_effect, row_effect, taken_effect, unwanted_effect, unwanted_here_effect}
 use Rattle.kernel_step.specs.Actions.{is_withdrawing}
 use Rattle.kernel_step.specs.Rows.{awaits, is_matched}
-use Rattle.kernel_world.specs.World.{World, Takes, happens}
+use Rattle.theorem_meaning.specs.World.{World, Takes, happens}
 use Rattle.service_step.specs.Ends.{is_living, is_started_inward, is_taken}
 use Rattle.service_step.specs.State.{State}
 use Rattle.service_step.specs.declared.state.Inward.TheVariants as inward
 use Rattle.service_step.specs.declared.state.Place.TheVariants as place
-use Rattle.theorem_effects.proofs.Allowed.{between, takes-allowed}
-use Rattle.theorem_effects.proofs.Ends.{inward-same, outward-same}
-use Rattle.theorem_effects.specs.Change.{Change, Changes, Happens}
-use Rattle.theorem_effects.specs.Events.{taking}
+use Rattle.theorem_take_silent.proofs.Allowed.{between, takes-allowed}
+use Rattle.theorem_take_silent.proofs.Ends.{inward-same, outward-same}
+use Rattle.theorem_take_silent.specs.Change.{Change, Changes, Happens}
+use Rattle.theorem_take_silent.specs.Events.{taking}
 use Rattle.theorem_meaning.proofs.Goes.{Goes}
 use Rattle.theorem_meaning.specs.Fields.{IsAskedAs}
 use Rattle.theorem_meaning.specs.Invariant.{Invariant, NamesBelow, is_taken_of}

@@ -14,14 +14,14 @@ use Rattle.end_table.specs.declared.entry.Entry.{Entry}
 use Rattle.end_table.specs.declared.entry.Entry.TheVariants as entry
 use Rattle.end_table.specs.declared.entry.HereView.{HereView}
 use Rattle.end_table.specs.declared.entry.Inward.TheVariants as kernel_inward
-use Rattle.kernel_effects.specs.Effect.{Effect, for_holder, nothing}
-use Rattle.kernel_effects.specs.Rows.{frees_effect, unwanted_effect, unwanted_here_effect}
+use Rattle.theorem_take_silent.specs.Effect.{Effect, for_holder, nothing}
+use Rattle.theorem_take_silent.specs.Rows.{frees_effect, unwanted_effect, unwanted_here_effect}
 use Rattle.kernel_sound.proofs.Actions.{learned-end}
 use Rattle.kernel_sound.proofs.Put.{IsViewAfter, put-sound-view}
 use Rattle.kernel_sound.specs.Sound.{IsHeldWell, IsSound}
 use Rattle.kernel_step.specs.Actions.{is_withdrawing, learned_view}
 use Rattle.kernel_step.specs.declared.phase.Phase.TheVariants as kernel_phase
-use Rattle.kernel_world.specs.World.{World, Takes, happens}
+use Rattle.theorem_meaning.specs.World.{World, Takes, happens}
 use Rattle.service_change.proofs.EndEq.{puts-at, puts-other}
 use Rattle.service_change.proofs.EndEq as service_ends
 use Rattle.service_consistent.proofs.Laws.{consistent_after}
@@ -33,10 +33,10 @@ use Rattle.service_step.specs.declared.state.Inward.{Inward}
 use Rattle.service_step.specs.declared.state.Inward.TheVariants as inward
 use Rattle.service_step.specs.declared.state.Phase.TheVariants as phase
 use Rattle.service_step.specs.declared.state.Place.TheVariants as place
-use Rattle.theorem_effects.proofs.Allowed.{takes-allowed}
-use Rattle.theorem_effects.proofs.Ends.{outward-same}
-use Rattle.theorem_effects.specs.Change.{Happens}
-use Rattle.theorem_effects.specs.Events.{taking}
+use Rattle.theorem_take_silent.proofs.Allowed.{takes-allowed}
+use Rattle.theorem_take_silent.proofs.Ends.{outward-same}
+use Rattle.theorem_take_silent.specs.Change.{Happens}
+use Rattle.theorem_take_silent.specs.Events.{taking}
 use Rattle.theorem_meaning.proofs.Ends.{eq-same}
 use Rattle.theorem_meaning.proofs.Goes.{Goes}
 use Rattle.theorem_meaning.proofs.Plain.{cancelling-same, owner-same}

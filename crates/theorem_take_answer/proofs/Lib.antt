@@ -7,3 +7,13 @@ pub mod Turned
 pub mod Freed
 pub mod Completed
 pub mod Takings
+pub use Rattle.theorem_take_silent.proofs.Alike
+pub use Rattle.theorem_take_silent.proofs.Allowed
+pub use Rattle.theorem_take_silent.proofs.Aside
+pub use Rattle.theorem_take_silent.proofs.Clauses
+pub use Rattle.theorem_take_silent.proofs.Lists
+pub use Rattle.theorem_take_silent.proofs.NamedAfter
+pub use Rattle.theorem_take_silent.proofs.Passing
+pub use Rattle.theorem_take_silent.proofs.Places
+pub use Rattle.theorem_take_silent.proofs.Sound
+pub use Rattle.theorem_take_silent.proofs.Taking

@@ -14,14 +14,14 @@ use Rattle.end_table.specs.declared.entry.Outward.{Outward as KernelOutward}
 use Rattle.end_table.specs.declared.entry.Outward.TheVariants as kernel_outward
 use Rattle.kernel_sound.specs.Sound.{IsHeldWell}
 use Rattle.kernel_step.specs.Actions.{here}
-use Rattle.kernel_world.specs.World.{World}
+use Rattle.theorem_meaning.specs.World.{World}
 use Rattle.service_step.specs.Ends.{is_idle, is_idle_inward, is_idle_outward, is_living}
 use Rattle.service_step.specs.State.{State}
 use Rattle.service_step.specs.declared.state.Outward.TheVariants as outward
 use Rattle.service_step.specs.declared.state.Phase.TheVariants as phase
 use Rattle.service_step.specs.declared.state.Place.{Place}
 use Rattle.service_step.specs.declared.state.Place.TheVariants as place
-use Rattle.theorem_effects.proofs.Lists.{first}
+use Rattle.theorem_take_silent.proofs.Lists.{first}
 use Rattle.theorem_meaning.specs.Invariant.{Invariant, IsPacketRight, IsTakenRight}
 use Rattle.theorem_meaning.specs.Packets.{Links, links_of}
 use Rattle.theorem_meaning.specs.StandsFor.{IsEndOf, IsOutwardOf, home_of}

@@ -22,10 +22,10 @@ use Rattle.service_lawful.specs.Consistent.{is_open}
 use Rattle.service_step.specs.Ends.{is_living, is_made}
 use Rattle.service_step.specs.State.{State, Process}
 use Rattle.service_step.specs.declared.state.End.{End}
-use Rattle.theorem_effects.proofs.Lists.{none-there}
-use Rattle.theorem_effects.proofs.Packets.{left-before, left-was, taken-before, taken-there}
-use Rattle.theorem_effects.specs.Change.{Change, Changes, taken_at}
-use Rattle.theorem_effects.specs.Under.{IsLeft}
+use Rattle.theorem_take_silent.proofs.Lists.{none-there}
+use Rattle.theorem_take_silent.proofs.Packets.{left-before, left-was, taken-before, taken-there}
+use Rattle.theorem_take_silent.specs.Change.{Change, Changes, taken_at}
+use Rattle.theorem_take_silent.specs.Under.{IsLeft}
 use Rattle.theorem_meaning.proofs.Sums.{over-same}
 use Rattle.theorem_meaning.specs.Fields.{Stand, At, Flying, HasFields, IsAskedAs, IsAsking, IsHeard, IsNews, IsUnserved, IsUnwantOf, value_of}
 use Rattle.theorem_meaning.specs.Invariant.{AreAsked, AreCounted, AreMarked, AreNamed, AreRight, AreSentOnce, AreWanted, IsPacketRight, IsServed, IsUnwantedOnce, NamesBelow, is_message_of, is_unwanted_to}

@@ -5,12 +5,12 @@ use Rattle.charlotte_calls.specs.declared.names.EndId.{EndId}
 use Rattle.charlotte_packets.specs.declared.picture.Picture.{Picture}
 use Rattle.charlotte_packets.specs.declared.picture.PictureWhat.{PictureWhat}
 use Rattle.end_table.specs.declared.entry.Entry.{Entry}
-use Rattle.theorem_effects.proofs.Lists.{All-there}
-use Rattle.theorem_effects.proofs.Packets.{left-before, left-was, taken-there, under_way-before}
-use Rattle.theorem_effects.proofs.Sums.{sum_over-after}
-use Rattle.theorem_effects.specs.Change.{Change, Changes, sent_at, taken_at}
-use Rattle.theorem_effects.specs.Sums.{sum_taken}
-use Rattle.theorem_effects.specs.Under.{IsLeft, IsTaken}
+use Rattle.theorem_take_silent.proofs.Lists.{All-there}
+use Rattle.theorem_take_silent.proofs.Packets.{left-before, left-was, taken-there, under_way-before}
+use Rattle.theorem_take_silent.proofs.Sums.{sum_over-after}
+use Rattle.theorem_take_silent.specs.Change.{Change, Changes, sent_at, taken_at}
+use Rattle.theorem_take_silent.specs.Sums.{sum_taken}
+use Rattle.theorem_take_silent.specs.Under.{IsLeft, IsTaken}
 use Rattle.theorem_meaning.specs.Packets.{Each, IsUnderWay, Links, sum_over}
 use Rattle.theorem_take_silent.proofs.Alike.{some-same}
 use Rattle.theorem_take_answer.specs.Swapped.{instead, swapped}

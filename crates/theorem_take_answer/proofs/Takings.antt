@@ -11,7 +11,7 @@ use Rattle.end_table.specs.declared.entry.Inward.{Inward}
 use Rattle.end_table.specs.declared.entry.Inward.TheVariants as inward
 use Rattle.kernel_sound.proofs.Parcels.{awaits-here}
 use Rattle.kernel_step.specs.Rows.{awaits}
-use Rattle.kernel_world.specs.World.{World, Takes}
+use Rattle.theorem_meaning.specs.World.{World, Takes}
 use Rattle.service_step.specs.Ends.{is_living}
 use Rattle.service_step.specs.State.{State}
 use Rattle.theorem_meaning.proofs.Goes.{Goes}

@@ -21,10 +21,10 @@ use Rattle.end_table.specs.declared.entry.HereView.{HereView}
 use Rattle.end_table.specs.declared.entry.Inward.{Inward as KernelInward}
 use Rattle.end_table.specs.declared.entry.Inward.TheVariants as kernel_inward
 use Rattle.end_table.specs.declared.entry.Outward.{Outward as KernelOutward}
-use Rattle.kernel_effects.specs.Effect.{Effect}
-use Rattle.kernel_effects.specs.Rows.{view_news}
+use Rattle.theorem_take_silent.specs.Effect.{Effect}
+use Rattle.theorem_take_silent.specs.Rows.{view_news}
 use Rattle.kernel_step.specs.Actions.{here, is_withdrawing, learned_view}
-use Rattle.kernel_world.specs.World.{World, Takes, happens}
+use Rattle.theorem_meaning.specs.World.{World, Takes, happens}
 use Rattle.service_step.specs.Ends.{is_living, is_made, is_posted, is_taken, matched_message}
 use Rattle.service_step.specs.State.{State, Process}
 use Rattle.service_step.specs.declared.state.End.{End}
@@ -34,13 +34,13 @@ use Rattle.service_step.specs.declared.state.Outward.{Outward}
 use Rattle.service_step.specs.declared.state.Outward.TheVariants as outward
 use Rattle.service_step.specs.declared.state.Phase.TheVariants as phase
 use Rattle.service_step.specs.declared.state.Place.TheVariants as place
-use Rattle.theorem_effects.proofs.Allowed.{between, sum_over-least}
-use Rattle.theorem_effects.proofs.Packets.{left-before}
-use Rattle.theorem_effects.proofs.Ends.{inward-same, outward-same}
-use Rattle.theorem_effects.specs.Change.{Change, Changes, Happens, taken_at}
-use Rattle.theorem_effects.specs.Events.{taking}
-use Rattle.theorem_effects.specs.Sums.{AllSent}
-use Rattle.theorem_effects.specs.Under.{IsLeft, IsTaken}
+use Rattle.theorem_take_silent.proofs.Allowed.{between, sum_over-least}
+use Rattle.theorem_take_silent.proofs.Packets.{left-before}
+use Rattle.theorem_take_silent.proofs.Ends.{inward-same, outward-same}
+use Rattle.theorem_take_silent.specs.Change.{Change, Changes, Happens, taken_at}
+use Rattle.theorem_take_silent.specs.Events.{taking}
+use Rattle.theorem_take_silent.specs.Sums.{AllSent}
+use Rattle.theorem_take_silent.specs.Under.{IsLeft, IsTaken}
 use Rattle.theorem_meaning.specs.Fields.{IsAskedAs, IsNews}
 use Rattle.theorem_meaning.specs.Invariant.{AreRight, Invariant, is_taken_of}
 use Rattle.theorem_meaning.specs.Packets.{IsParcelFor, IsTakenOf, IsUnderWay, IsUnwantedOf, Links, how_many, links_of, one_if}

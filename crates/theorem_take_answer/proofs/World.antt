@@ -6,10 +6,10 @@ use Rattle.charlotte_calls.specs.declared.names.Pid.{Pid}
 use Rattle.end_table.specs.declared.entry.Entry.{Entry}
 use Rattle.kernel_sound.specs.Sound.{IsSound}
 use Rattle.kernel_step.specs.Kernel.{Kernel}
-use Rattle.kernel_world.specs.World.{World}
+use Rattle.theorem_meaning.specs.World.{World}
 use Rattle.service_step.specs.State.{State, Process}
 use Rattle.service_step.specs.declared.state.End.{End}
-use Rattle.theorem_effects.specs.Change.{Becomes, Change}
+use Rattle.theorem_take_silent.specs.Change.{Becomes, Change}
 use Rattle.theorem_meaning.specs.Invariant.{IsOfSetting}
 use Rattle.theorem_meaning.specs.StandsFor.{IsProcessOf, home_of}
 use Rattle.theorem_take_silent.proofs.Alike.{IsQuietly-same}

@@ -1,1 +1,6 @@
 pub mod Swapped
+pub use Rattle.theorem_take_silent.specs.Change
+pub use Rattle.theorem_take_silent.specs.Events
+pub use Rattle.theorem_take_silent.specs.Named
+pub use Rattle.theorem_take_silent.specs.Quiet
+pub use Rattle.theorem_take_silent.specs.Sums

@@ -19,7 +19,7 @@ use Rattle.service_step.specs.declared.state.Message.{Message}
 use Rattle.service_step.specs.declared.state.Outward.TheVariants as outward
 use Rattle.service_step.specs.declared.state.Phase.TheVariants as phase
 use Rattle.service_step.specs.declared.state.Place.TheVariants as place
-use Rattle.theorem_effects.specs.Change.{Change, Changes, taken_at}
+use Rattle.theorem_take_silent.specs.Change.{Change, Changes, taken_at}
 use Rattle.theorem_meaning.specs.Fields.{IsAskedAs}
 use Rattle.theorem_meaning.specs.Invariant.{is_taken_of}
 use Rattle.theorem_meaning.specs.Packets.{IsParcelFor, IsTakenOf, IsUnderWay, IsUnwantedOf, Links, how_many, one_if}

@@ -42,22 +42,22 @@ use Rattle.service_step.specs.declared.state.Message.{Message}
 use Rattle.service_step.specs.declared.state.Outward.TheVariants as outward
 use Rattle.service_step.specs.declared.state.Place.{Place}
 use Rattle.service_step.specs.declared.state.Place.TheVariants as place
-use Rattle.theorem_effects.proofs.Allowed.{are-oldest, between, takes-allowed}
-use Rattle.theorem_effects.proofs.Ends.{all_sent-weaker}
-use Rattle.theorem_effects.specs.Change.{Change, Changes, Happens}
-use Rattle.theorem_effects.specs.Events.{taking}
-use Rattle.theorem_effects.specs.Sums.{AllSent}
+use Rattle.theorem_take_want.proofs.Allowed.{are-oldest, between, takes-allowed}
+use Rattle.theorem_take_want.proofs.Ends.{all_sent-weaker}
+use Rattle.theorem_take_want.specs.Change.{Change, Changes, Happens}
+use Rattle.theorem_take_want.specs.Events.{taking}
+use Rattle.theorem_take_want.specs.Sums.{AllSent}
 use Rattle.theorem_meaning.proofs.Ends.{opposite-twice}
 use Rattle.theorem_meaning.specs.Invariant.{AreRight, Invariant, IsBackRight, is_message_of}
 use Rattle.theorem_meaning.specs.Packets.{Links, links_of}
 use Rattle.theorem_meaning.specs.StandsFor.{AreLinksOf}
-use Rattle.theorem_take_silent.proofs.Alike.{IsQuietly-same, some-same}
-use Rattle.theorem_take_silent.proofs.Clauses.{links-still}
-use Rattle.theorem_take_silent.proofs.Passing.{passing-right}
-use Rattle.theorem_take_silent.specs.Quiet.{IsPassed, IsPassing, IsQuiet, IsSentWell, tells_place}
-use Rattle.theorem_take_answer.proofs.Freed.{put-table-sound}
-use Rattle.theorem_take_answer.proofs.Meets.{IsOwnedAt, right-first, stands-first}
-use Rattle.theorem_take_answer.proofs.Swap.{swapped-changes}
+use Rattle.theorem_take_want.proofs.Alike.{IsQuietly-same, some-same}
+use Rattle.theorem_take_want.proofs.Clauses.{links-still}
+use Rattle.theorem_take_want.proofs.Passing.{passing-right}
+use Rattle.theorem_take_want.specs.Quiet.{IsPassed, IsPassing, IsQuiet, IsSentWell, tells_place}
+use Rattle.theorem_ends_arrived.proofs.Freed.{put-table-sound}
+use Rattle.theorem_ends_arrived.proofs.Meets.{IsOwnedAt, right-first, stands-first}
+use Rattle.theorem_ends_arrived.proofs.Swap.{swapped-changes}
 use Rattle.theorem_take_want.proofs.Parts as parts
 use Rattle.theorem_ends_arrived.specs.Arrived.{IsAmong, IsLaden, IsTrueMove, settles, without_values}
 use Rattle.theorem_ends_arrived.proofs.Among.{among-contains, among-told, contains-among, told-among}

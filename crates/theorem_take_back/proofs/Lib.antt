@@ -2,3 +2,8 @@ pub mod Returned
 pub mod Returns
 pub mod Backs
 pub mod Takings
+pub use Rattle.theorem_ends_arrived.proofs.Gone
+pub use Rattle.theorem_take_want.proofs.Hearing
+pub use Rattle.theorem_take_want.proofs.Taking
+pub use Rattle.theorem_take_want.proofs.Unwanting
+pub use Rattle.theorem_take_want.proofs.Wanting

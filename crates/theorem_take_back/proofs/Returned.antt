@@ -28,21 +28,21 @@ use Rattle.service_step.specs.State.{Process, State}
 use Rattle.service_step.specs.declared.state.End.{End}
 use Rattle.service_step.specs.declared.state.Outward.TheVariants as outward
 use Rattle.service_step.specs.declared.state.Place.TheVariants as place
-use Rattle.theorem_effects.proofs.Allowed.{named-between, sum_over-least}
-use Rattle.theorem_effects.proofs.Ends.{inward-same, outward-same}
-use Rattle.theorem_effects.proofs.Lists.{none-there}
-use Rattle.theorem_effects.proofs.Packets.{each-after, left-after, left-before, left_or_sent, taken-before, under_way-still, under_way-was}
-use Rattle.theorem_effects.proofs.Sums.{sum_over-after}
-use Rattle.theorem_effects.specs.Change.{Change, Changes}
-use Rattle.theorem_effects.specs.Sums.{sum_taken}
+use Rattle.theorem_take_want.proofs.Allowed.{named-between, sum_over-least}
+use Rattle.theorem_take_want.proofs.Ends.{inward-same, outward-same}
+use Rattle.theorem_take_want.proofs.Lists.{none-there}
+use Rattle.theorem_take_want.proofs.Packets.{each-after, left-after, left-before, left_or_sent, taken-before, under_way-still, under_way-was}
+use Rattle.theorem_take_want.proofs.Sums.{sum_over-after}
+use Rattle.theorem_take_want.specs.Change.{Change, Changes}
+use Rattle.theorem_take_want.specs.Sums.{sum_taken}
 use Rattle.theorem_meaning.proofs.Ends.{opposite-twice}
 use Rattle.theorem_meaning.proofs.Sums.{over-same}
 use Rattle.theorem_meaning.specs.Fields.{Stand, At, Flying, HasFields, IsAskedAs, IsAsking, IsNews, IsUnserved, IsUnwantOf, value_of}
 use Rattle.theorem_meaning.specs.Invariant.{AreAsked, AreCounted, AreNamed, AreRight, AreSentOnce, AreWanted, IsBackRight, IsHonest, IsPacketRight, IsServed, NamesBelow, is_message_of, is_taken_of, is_unwanted_to}
 use Rattle.theorem_meaning.specs.Packets.{IsBackOf, IsParcelFor, IsParcelOf, IsTakenOf, IsUnderWay, IsUnwantedOf, Links, how_many, one_if, over_kernels, sum_over, values_for, values_of}
 use Rattle.theorem_meaning.specs.StandsFor.{AreLinksOf, IsEndOf, IsInMessage, IsWaitingWith, home_of, standing}
-use Rattle.theorem_take_silent.proofs.Alike.{some-same}
-use Rattle.theorem_take_silent.proofs.Places.{here-kernel}
+use Rattle.theorem_take_want.proofs.Alike.{some-same}
+use Rattle.theorem_take_want.proofs.Places.{here-kernel}
 use Rattle.theorem_meaning.proofs.Plain.{none-in}
 use Rattle.theorem_take_back.specs.Returned.{IsReturned, IsTakingBack, bare_back, over_view, taking_back}
 

@@ -48,20 +48,20 @@ use Rattle.service_step.specs.declared.state.Message.{Message}
 use Rattle.service_step.specs.declared.state.Outward.TheVariants as outward
 use Rattle.service_step.specs.declared.state.Phase.TheVariants as phase
 use Rattle.service_step.specs.declared.state.Place.TheVariants as place
-use Rattle.theorem_effects.proofs.NamedParts.{forgets-within}
-use Rattle.theorem_effects.proofs.Values.{each-weaker}
-use Rattle.theorem_effects.specs.Named.{IsSentWithin}
-use Rattle.theorem_effects.specs.Sums.{AllSent}
+use Rattle.theorem_take_want.proofs.NamedParts.{forgets-within}
+use Rattle.theorem_take_want.proofs.Values.{each-weaker}
+use Rattle.theorem_take_want.specs.Named.{IsSentWithin}
+use Rattle.theorem_take_want.specs.Sums.{AllSent}
 use Rattle.theorem_meaning.proofs.Ends.{eq-same}
 use Rattle.theorem_meaning.proofs.Goes.{Goes}
 use Rattle.theorem_meaning.specs.Invariant.{Invariant, IsBackRight, NamesBelow}
 use Rattle.theorem_meaning.specs.Packets.{links_of}
-use Rattle.theorem_take_silent.proofs.Alike.{some-same}
-use Rattle.theorem_take_silent.specs.Quiet.{IsGoneWell, IsSentWell, is_telling, tells_place}
-use Rattle.theorem_take_answer.proofs.Dropped.{awaits-matched}
-use Rattle.theorem_take_answer.proofs.Meets.{IsOwnedAt}
-use Rattle.theorem_take_gone.proofs.Gone.{both-each, cancel-cases}
-use Rattle.theorem_take_gone.proofs.Notices.{cancels-same, notice-links, notice-right, notice-step, noticed_links, process-other, process-own, told-same}
+use Rattle.theorem_take_want.proofs.Alike.{some-same}
+use Rattle.theorem_take_want.specs.Quiet.{IsGoneWell, IsSentWell, is_telling, tells_place}
+use Rattle.theorem_ends_arrived.proofs.Dropped.{awaits-matched}
+use Rattle.theorem_ends_arrived.proofs.Meets.{IsOwnedAt}
+use Rattle.theorem_ends_arrived.proofs.Gone.{both-each, cancel-cases}
+use Rattle.theorem_ends_arrived.proofs.Notices.{cancels-same, notice-links, notice-right, notice-step, noticed_links, process-other, process-own, told-same}
 use Rattle.theorem_ends_arrived.proofs.Closes.{answered-goes, reported-goes}
 use Rattle.theorem_ends_arrived.proofs.Owned.{busy-owned}
 use Rattle.theorem_meaning.proofs.Plain.{there-here}

@@ -13,7 +13,7 @@ use Rattle.service_step.specs.State.{Process, State}
 use Rattle.service_step.specs.declared.state.End.{End}
 use Rattle.service_step.specs.declared.state.Outward.TheVariants as outward
 use Rattle.service_step.specs.declared.state.Phase.TheVariants as phase
-use Rattle.theorem_effects.specs.Change.{Change}
+use Rattle.theorem_take_want.specs.Change.{Change}
 use Rattle.theorem_meaning.specs.Invariant.{AreRight}
 use Rattle.theorem_meaning.specs.Packets.{Links}
 use Rattle.theorem_meaning.specs.StandsFor.{AreLinksOf}

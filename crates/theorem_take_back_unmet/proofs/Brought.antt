@@ -17,9 +17,9 @@ use Rattle.kernel_world.specs.World.{World}
 use Rattle.service_change.proofs.Change.{living-made}
 use Rattle.service_step.specs.Ends.{is_living}
 use Rattle.service_step.specs.State.{State}
-use Rattle.theorem_effects.proofs.Allowed.{between, sum_over-least}
-use Rattle.theorem_effects.proofs.Aside.{ends_in-there}
-use Rattle.theorem_effects.proofs.Lists.{first, later}
+use Rattle.theorem_take_answer.proofs.Allowed.{between, sum_over-least}
+use Rattle.theorem_take_answer.proofs.Aside.{ends_in-there}
+use Rattle.theorem_take_answer.proofs.Lists.{first, later}
 use Rattle.theorem_meaning.proofs.Sums.{over-least}
 use Rattle.theorem_meaning.specs.Invariant.{Invariant}
 use Rattle.theorem_meaning.specs.Packets.{links_of, one_if, over_kernels, sum_over, values_for, values_of}

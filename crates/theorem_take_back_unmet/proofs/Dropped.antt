@@ -39,13 +39,13 @@ use Rattle.service_step.specs.declared.state.Message.{Message}
 use Rattle.service_step.specs.declared.state.Outward.TheVariants as outward
 use Rattle.service_step.specs.declared.state.Place.{Place}
 use Rattle.service_step.specs.declared.state.Place.TheVariants as place
-use Rattle.theorem_take_silent.proofs.Places.{fields-here, here-living}
-use Rattle.theorem_effects.proofs.Allowed.{between, brings-different, takes-allowed}
-use Rattle.theorem_effects.proofs.NamedAfter.{takes-names, takes-within}
-use Rattle.theorem_effects.specs.Change.{Change, Changes, Happens}
-use Rattle.theorem_effects.specs.Events.{taking}
-use Rattle.theorem_effects.specs.Named.{NamesWithin}
-use Rattle.theorem_effects.specs.Sums.{AllSent, IsWithin}
+use Rattle.theorem_take_answer.proofs.Places.{fields-here, here-living}
+use Rattle.theorem_take_answer.proofs.Allowed.{between, brings-different, takes-allowed}
+use Rattle.theorem_take_answer.proofs.NamedAfter.{takes-names, takes-within}
+use Rattle.theorem_take_answer.specs.Change.{Change, Changes, Happens}
+use Rattle.theorem_take_answer.specs.Events.{taking}
+use Rattle.theorem_take_answer.specs.Named.{NamesWithin}
+use Rattle.theorem_take_answer.specs.Sums.{AllSent, IsWithin}
 use Rattle.theorem_meaning.proofs.Ends.{eq-same, opposite-twice}
 use Rattle.theorem_meaning.proofs.Goes.{Goes}
 use Rattle.theorem_meaning.specs.Fields.{At, Flying}
@@ -58,7 +58,7 @@ use Rattle.theorem_ends_destroyed.proofs.Clauses.{ended-right}
 use Rattle.theorem_ends_destroyed.proofs.Facts.{among-same, not-true, or-true, true-or}
 use Rattle.theorem_ends_destroyed.proofs.Placed.{ended-links}
 use Rattle.theorem_ends_destroyed.specs.Ending.{IsEnded, IsEnding, IsSendAfter, IsToldOf, Kept, Returned}
-use Rattle.theorem_take_silent.proofs.Sound.{takes-sound}
+use Rattle.theorem_take_answer.proofs.Sound.{takes-sound}
 use Rattle.theorem_meaning.proofs.Plain.{destroyed-so, there-here}
 use Rattle.theorem_take_back_unmet.proofs.Brought.{brought-away, brought-flies, brought-made, brought-of, values-coming}
 

@@ -29,7 +29,7 @@ use Rattle.kernel_effects.proofs.Uses.{all-append, forget-each}
 use Rattle.kernel_effects.specs.Actions.{cancel_notice, forget_packets, notice_effect, receive_notice, send_notice}
 use Rattle.kernel_effects.specs.Effect.{Effect, for_holder, sent}
 use Rattle.kernel_effects.specs.Rows.{gone_effect}
-use Rattle.kernel_outcomes.specs.Closing.{AtMostOne, process_after, told, told_entry}
+use Rattle.theorem_call_wait.specs.Closing.{AtMostOne, process_after, told, told_entry}
 use Rattle.kernel_sound.proofs.Needs.{IfHere-at}
 use Rattle.kernel_sound.proofs.Reports.{IsSound-reported}
 use Rattle.kernel_sound.specs.Sound.{IsHeldWell, IsSound, addressee}
@@ -46,22 +46,22 @@ use Rattle.service_step.specs.Steps.{IsServiceStep, after_notice, after_report, 
 use Rattle.service_step.specs.declared.state.End.{End}
 use Rattle.service_step.specs.declared.state.Phase.TheVariants as phase
 use Rattle.service_step.specs.declared.state.Place.TheVariants as place
-use Rattle.theorem_effects.proofs.Allowed.{are-oldest, between, takes-allowed}
-use Rattle.theorem_effects.proofs.Lists.{first}
-use Rattle.theorem_effects.proofs.NamedParts.{forgets-within}
-use Rattle.theorem_effects.specs.Change.{Change, Changes, Happens}
-use Rattle.theorem_effects.specs.Events.{taking}
-use Rattle.theorem_effects.specs.Named.{IsSentWithin}
-use Rattle.theorem_effects.specs.Sums.{AllSent}
+use Rattle.theorem_call_wait.proofs.Allowed.{are-oldest, between, takes-allowed}
+use Rattle.theorem_call_wait.proofs.Lists.{first}
+use Rattle.theorem_call_wait.proofs.NamedParts.{forgets-within}
+use Rattle.theorem_call_wait.specs.Change.{Change, Changes, Happens}
+use Rattle.theorem_call_wait.specs.Events.{taking}
+use Rattle.theorem_call_wait.specs.Named.{IsSentWithin}
+use Rattle.theorem_call_wait.specs.Sums.{AllSent}
 use Rattle.theorem_meaning.proofs.Goes.{Goes}
 use Rattle.theorem_meaning.specs.Invariant.{AreRight, Invariant, NamesBelow}
 use Rattle.theorem_meaning.specs.Packets.{Links, links_of}
 use Rattle.theorem_meaning.specs.StandsFor.{AreLinksOf, IsProcessOf, home_of, service_phase}
-use Rattle.theorem_take_silent.proofs.Alike.{IsQuietly-same, some-same}
-use Rattle.theorem_take_silent.proofs.Clauses.{links-still}
-use Rattle.theorem_take_silent.proofs.Passing.{passing-right}
-use Rattle.theorem_take_silent.proofs.Taking.{taken-well, taking-goes}
-use Rattle.theorem_take_silent.specs.Quiet.{IsGoneWell, IsPassed, IsPassing, IsQuiet, IsSentWell, is_telling, tells_place}
+use Rattle.theorem_take_answer.proofs.Alike.{IsQuietly-same, some-same}
+use Rattle.theorem_take_answer.proofs.Clauses.{links-still}
+use Rattle.theorem_take_answer.proofs.Passing.{passing-right}
+use Rattle.theorem_take_answer.proofs.Taking.{taken-well, taking-goes}
+use Rattle.theorem_take_answer.specs.Quiet.{IsGoneWell, IsPassed, IsPassing, IsQuiet, IsSentWell, is_telling, tells_place}
 use Rattle.theorem_take_answer.proofs.Completed.{waiting-Waiting, waiting-service}
 use Rattle.theorem_take_answer.proofs.Meets.{right-first, stands-first}
 use Rattle.theorem_take_answer.proofs.World.{processes-kept, processes-told, setting-after, sound-same}

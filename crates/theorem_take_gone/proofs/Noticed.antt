@@ -32,7 +32,7 @@ use Rattle.theorem_meaning.proofs.Plain.{view-same}
 use Rattle.theorem_meaning.specs.Fields.{IsAskedAs, value_of}
 use Rattle.theorem_meaning.specs.Invariant.{NamesBelow}
 use Rattle.theorem_meaning.specs.StandsFor.{IsWaitingWith}
-use Rattle.theorem_take_silent.proofs.Alike.{some-same}
+use Rattle.theorem_take_answer.proofs.Alike.{some-same}
 
 -- an entry stays, and is here only of another end; or it is that of an end that was enclosed, which p owns now; or that of e
 pub data IsNoticedEntry (e : EndId) (p : Pid) (xs : List EndId) (q : EndId) (x y : Entry) : Type 0 where

@@ -33,7 +33,7 @@ use Rattle.service_step.specs.declared.state.Message.{Message}
 use Rattle.service_step.specs.declared.state.Outward.{Outward}
 use Rattle.service_step.specs.declared.state.Outward.TheVariants as outward
 use Rattle.service_step.specs.declared.state.Place.TheVariants as place
-use Rattle.theorem_effects.proofs.Ends.{inward-same, outward-same}
+use Rattle.theorem_call_wait.proofs.Ends.{inward-same, outward-same}
 use Rattle.theorem_meaning.proofs.Ends.{opposite-twice}
 use Rattle.theorem_meaning.proofs.Sums.{over-same}
 use Rattle.theorem_meaning.specs.Fields.{At, value_of}

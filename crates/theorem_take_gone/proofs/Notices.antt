@@ -24,7 +24,7 @@ use Rattle.end_table.specs.declared.entry.Outward.{Outward as KernelOutward}
 use Rattle.end_table.specs.declared.entry.Outward.TheVariants as kernel_outward
 use Rattle.kernel_effects.proofs.Actions.{notices-does}
 use Rattle.kernel_effects.specs.Actions.{held_entry, notice_effect, noticed_view, receive_notice, send_notice}
-use Rattle.kernel_outcomes.proofs.Sound.{AreDifferent-held}
+use Rattle.theorem_call_wait.proofs.Sound.{AreDifferent-held}
 use Rattle.kernel_sound.proofs.Actions.{notices-well}
 use Rattle.kernel_sound.proofs.Goes.{GoesWell}
 use Rattle.kernel_sound.proofs.Needs.{IfHere-at, apart_at-sound}
@@ -50,8 +50,8 @@ use Rattle.service_step.specs.declared.state.Phase.{Phase}
 use Rattle.service_step.specs.declared.state.Phase.TheVariants as phase
 use Rattle.service_step.specs.declared.state.Place.{Place}
 use Rattle.service_step.specs.declared.state.Place.TheVariants as place
-use Rattle.theorem_take_silent.proofs.Alike.{some-same}
-use Rattle.theorem_take_silent.proofs.Places.{fields-here, here-kernel, here-living}
+use Rattle.theorem_take_answer.proofs.Alike.{some-same}
+use Rattle.theorem_take_answer.proofs.Places.{fields-here, here-kernel, here-living}
 use Rattle.theorem_meaning.proofs.Ends.{eq-same}
 use Rattle.theorem_meaning.specs.Fields.{Stand, At, Flying, HasFields, value_of}
 use Rattle.theorem_meaning.specs.Invariant.{AreRight}

@@ -9,7 +9,7 @@ use Rattle.end_table.specs.Place.{end_eq}
 use Rattle.end_table.specs.declared.entry.Entry.{Entry}
 use Rattle.end_table.specs.declared.entry.Entry.TheVariants as entry
 use Rattle.end_table.specs.declared.entry.HereView.{HereView}
-use Rattle.kernel_outcomes.specs.Closing.{told_entry}
+use Rattle.theorem_call_wait.specs.Closing.{told_entry}
 use Rattle.kernel_step.specs.Kernel.{reported_entry, reported_view}
 use Rattle.service_change.proofs.Facts.{put_process-at, put_process-other}
 use Rattle.service_lawful.specs.Consistent.{IsConsistent}

@@ -24,22 +24,22 @@ use Rattle.service_step.specs.State.{State}
 use Rattle.service_step.specs.declared.state.End.{End}
 use Rattle.service_step.specs.declared.state.Inward.{Inward}
 use Rattle.service_step.specs.declared.state.Inward.TheVariants as inward
-use Rattle.theorem_effects.proofs.Allowed.{named-between, sum_over-least}
-use Rattle.theorem_effects.proofs.Lists.{none-there, only-there}
-use Rattle.theorem_effects.proofs.Packets.{left-before, left-was, taken-before, under_way-after, under_way-still}
-use Rattle.theorem_effects.proofs.Sums.{sum_over-after}
-use Rattle.theorem_effects.specs.Change.{Change, Changes, taken_at}
-use Rattle.theorem_effects.specs.Under.{IsLeft, IsSent}
+use Rattle.theorem_take_want.proofs.Allowed.{named-between, sum_over-least}
+use Rattle.theorem_take_want.proofs.Lists.{none-there, only-there}
+use Rattle.theorem_take_want.proofs.Packets.{left-before, left-was, taken-before, under_way-after, under_way-still}
+use Rattle.theorem_take_want.proofs.Sums.{sum_over-after}
+use Rattle.theorem_take_want.specs.Change.{Change, Changes, taken_at}
+use Rattle.theorem_take_want.specs.Under.{IsLeft, IsSent}
 use Rattle.theorem_meaning.proofs.Ends.{opposite-twice}
 use Rattle.theorem_meaning.specs.Fields.{Stand, At, Flying, HasFields, IsAskedAs, value_of}
 use Rattle.theorem_meaning.specs.Invariant.{IsPacketRight, IsParcelRight, is_message_of}
 use Rattle.theorem_meaning.specs.Packets.{Each, IsParcelFor, IsUnderWay, IsUnwantedOf, Links, how_many, one_if, sum_over, values_of}
 use Rattle.theorem_meaning.specs.StandsFor.{IsAskedOf, IsEndOf, IsInwardOf}
-use Rattle.theorem_take_silent.proofs.Alike.{some-same}
-use Rattle.theorem_take_silent.proofs.Places.{here-kernel}
-use Rattle.theorem_take_answer.specs.Swapped.{instead, news, swapped}
-use Rattle.theorem_take_answer.proofs.Swap.{swapped-after, swapped-still, swapped-sum}
-use Rattle.theorem_take_answer.proofs.Turned.{turned_view, with_entry}
+use Rattle.theorem_take_want.proofs.Alike.{some-same}
+use Rattle.theorem_take_want.proofs.Places.{here-kernel}
+use Rattle.theorem_ends_arrived.specs.Swapped.{instead, news, swapped}
+use Rattle.theorem_ends_arrived.proofs.Swap.{swapped-after, swapped-still, swapped-sum}
+use Rattle.theorem_ends_arrived.proofs.Turned.{turned_view, with_entry}
 use Rattle.theorem_take_parcel.specs.Received.{IsReceiving, answering, bare_parcel}
 
 -- the receive that is started at an entry

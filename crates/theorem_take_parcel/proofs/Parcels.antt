@@ -51,30 +51,30 @@ use Rattle.service_step.specs.declared.state.Outward.TheVariants as outward
 use Rattle.service_step.specs.declared.state.Phase.{Phase}
 use Rattle.service_step.specs.declared.state.Phase.TheVariants as phase
 use Rattle.service_step.specs.declared.state.Place.TheVariants as place
-use Rattle.theorem_effects.proofs.Allowed.{are-oldest, takes-allowed}
-use Rattle.theorem_effects.specs.Change.{Change, Changes, Happens}
-use Rattle.theorem_effects.specs.Events.{taking}
-use Rattle.theorem_effects.specs.Sums.{AllSent}
-use Rattle.theorem_effects.specs.Under.{IsTaken}
+use Rattle.theorem_take_want.proofs.Allowed.{are-oldest, takes-allowed}
+use Rattle.theorem_take_want.specs.Change.{Change, Changes, Happens}
+use Rattle.theorem_take_want.specs.Events.{taking}
+use Rattle.theorem_take_want.specs.Sums.{AllSent}
+use Rattle.theorem_take_want.specs.Under.{IsTaken}
 use Rattle.theorem_meaning.proofs.Ends.{eq-same, opposite-apart, opposite-twice}
 use Rattle.theorem_meaning.proofs.Goes.{Goes}
 use Rattle.theorem_meaning.specs.Fields.{IsAskedAs, IsNews}
 use Rattle.theorem_meaning.specs.Invariant.{AreRight, Invariant, IsParcelRight, is_message_of}
 use Rattle.theorem_meaning.specs.Packets.{Links, links_of}
 use Rattle.theorem_meaning.specs.StandsFor.{AreLinksOf, home_of}
-use Rattle.theorem_take_silent.proofs.Alike.{some-same}
-use Rattle.theorem_take_silent.proofs.Clauses.{links-still}
-use Rattle.theorem_take_silent.proofs.Hearing.{IsHearing, hears, learns-so}
-use Rattle.theorem_take_silent.proofs.Learning.{learning-right}
-use Rattle.theorem_take_silent.proofs.Rows.{IsTable}
-use Rattle.theorem_take_silent.specs.Learning.{IsLearning}
-use Rattle.theorem_take_silent.specs.Quiet.{IsQuiet}
-use Rattle.theorem_take_silent.specs.Silent.{IsStill}
-use Rattle.theorem_take_answer.specs.Swapped.{news}
-use Rattle.theorem_take_answer.proofs.Freed.{put-table-sound}
-use Rattle.theorem_take_answer.proofs.Meets.{IsOwnedAt, right-first, stands-first}
-use Rattle.theorem_take_answer.proofs.Swap.{swapped-changes}
-use Rattle.theorem_take_answer.proofs.Turned.{turned_view, with_entry}
+use Rattle.theorem_take_want.proofs.Alike.{some-same}
+use Rattle.theorem_take_want.proofs.Clauses.{links-still}
+use Rattle.theorem_take_want.proofs.Hearing.{IsHearing, hears, learns-so}
+use Rattle.theorem_take_want.proofs.Learning.{learning-right}
+use Rattle.theorem_take_want.proofs.Rows.{IsTable}
+use Rattle.theorem_take_want.specs.Learning.{IsLearning}
+use Rattle.theorem_take_want.specs.Quiet.{IsQuiet}
+use Rattle.theorem_take_want.specs.Silent.{IsStill}
+use Rattle.theorem_ends_arrived.specs.Swapped.{news}
+use Rattle.theorem_ends_arrived.proofs.Freed.{put-table-sound}
+use Rattle.theorem_ends_arrived.proofs.Meets.{IsOwnedAt, right-first, stands-first}
+use Rattle.theorem_ends_arrived.proofs.Swap.{swapped-changes}
+use Rattle.theorem_ends_arrived.proofs.Turned.{turned_view, with_entry}
 use Rattle.theorem_take_want.proofs.Parts as parts
 use Rattle.theorem_ends_arrived.specs.Arrived.{IsAmong, IsLaden, IsTrueMove, settles, without_values}
 use Rattle.theorem_take_parcel.specs.Received.{IsReceived, IsReceiving, answering}

@@ -34,22 +34,22 @@ use Rattle.service_step.specs.declared.state.Message.{Message}
 use Rattle.service_step.specs.declared.state.Outward.TheVariants as outward
 use Rattle.service_step.specs.declared.state.Phase.TheVariants as phase
 use Rattle.service_step.specs.declared.state.Place.TheVariants as place
-use Rattle.theorem_effects.proofs.Ends.{inward-same, outward-same}
-use Rattle.theorem_effects.proofs.Lists.{first, none-there}
-use Rattle.theorem_effects.proofs.Packets.{each-after, left-before, left_or_sent, left-was, taken-there, under_way-sent}
-use Rattle.theorem_effects.specs.Change.{Change, Changes, taken_at}
-use Rattle.theorem_effects.specs.Under.{IsLeft}
+use Rattle.theorem_take_want.proofs.Ends.{inward-same, outward-same}
+use Rattle.theorem_take_want.proofs.Lists.{first, none-there}
+use Rattle.theorem_take_want.proofs.Packets.{each-after, left-before, left_or_sent, left-was, taken-there, under_way-sent}
+use Rattle.theorem_take_want.specs.Change.{Change, Changes, taken_at}
+use Rattle.theorem_take_want.specs.Under.{IsLeft}
 use Rattle.theorem_meaning.proofs.Ends.{opposite-apart, opposite-twice}
 use Rattle.theorem_meaning.proofs.Sums.{over-same}
 use Rattle.theorem_meaning.specs.Fields.{Stand, HasFields, IsAskedAs, IsAsking, IsNews, IsNoMore, IsUnserved, IsUnwantOf}
 use Rattle.theorem_meaning.specs.Invariant.{AreAsked, AreCounted, AreMarked, AreNamed, AreRight, AreSentOnce, AreWanted, IsHonest, IsPacketRight, IsServed, NamesBelow, is_message_of, is_taken_of, is_unwanted_to}
 use Rattle.theorem_meaning.specs.Packets.{Each, IsBackOf, IsParcelFor, IsParcelOf, IsTakenOf, IsUnderWay, IsUnwantedOf, Links, how_many, one_if, over_kernels, values_for, values_of}
 use Rattle.theorem_meaning.specs.StandsFor.{AreLinksOf, IsEndOf, IsInMessage, IsInwardOf, IsOutwardOf, IsWaitingWith, home_of, standing}
-use Rattle.theorem_take_silent.proofs.Alike.{some-same}
-use Rattle.theorem_take_silent.proofs.Places.{fields-here}
-use Rattle.theorem_take_answer.specs.Swapped.{instead, news}
-use Rattle.theorem_take_answer.proofs.Swap.{swapped-each}
-use Rattle.theorem_take_answer.proofs.Turned.{with_entry}
+use Rattle.theorem_take_want.proofs.Alike.{some-same}
+use Rattle.theorem_take_want.proofs.Places.{fields-here}
+use Rattle.theorem_ends_arrived.specs.Swapped.{instead, news}
+use Rattle.theorem_ends_arrived.proofs.Swap.{swapped-each}
+use Rattle.theorem_ends_arrived.proofs.Turned.{with_entry}
 use Rattle.theorem_meaning.proofs.Plain.{none-in, unwant-asks}
 use Rattle.theorem_take_parcel.specs.Received.{IsReceived, IsReceiving, answering, bare_parcel}
 use Rattle.theorem_take_parcel.proofs.Meeting.{agrees, at-below, informed, is-right, met-after, met-alone, met-case, met-fields, met-number, met-still, met-sum, met-was, near, no-unwanted, not-posted, over_view, said, stood, view-case, view-still, view-was, was-there}

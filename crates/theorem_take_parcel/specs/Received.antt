@@ -17,7 +17,7 @@ use Rattle.service_step.specs.declared.state.Inward.{Inward}
 use Rattle.service_step.specs.declared.state.Outward.TheVariants as outward
 use Rattle.service_step.specs.declared.state.Phase.TheVariants as phase
 use Rattle.service_step.specs.declared.state.Place.TheVariants as place
-use Rattle.theorem_effects.specs.Change.{Change, Changes}
+use Rattle.theorem_take_want.specs.Change.{Change, Changes}
 use Rattle.theorem_meaning.specs.Fields.{IsAskedAs}
 use Rattle.theorem_meaning.specs.Invariant.{AreRight}
 use Rattle.theorem_meaning.specs.Packets.{Links}

@@ -21,7 +21,7 @@ use Rattle.service_lawful.specs.Consistent.{is_open}
 use Rattle.service_step.specs.Ends.{is_made}
 use Rattle.service_step.specs.State.{State}
 use Rattle.service_step.specs.declared.state.Place.TheVariants as place
-use Rattle.theorem_take_silent.proofs.Sound.{takes-sound}
+use Rattle.theorem_match.proofs.Sound.{takes-sound}
 use Rattle.theorem_effects.proofs.Allowed.{between, brings-different, takes-allowed}
 use Rattle.theorem_effects.proofs.Aside.{ends_in-there}
 use Rattle.theorem_effects.proofs.Lists.{first}
@@ -31,7 +31,7 @@ use Rattle.theorem_meaning.proofs.Goes.{Goes}
 use Rattle.theorem_meaning.specs.Fields.{IsAskedAs}
 use Rattle.theorem_meaning.specs.Invariant.{Invariant, IsPacketRight, IsParcelRight}
 use Rattle.theorem_meaning.specs.Packets.{links_of}
-use Rattle.theorem_take_want.proofs.World.{invariant-anew}
+use Rattle.theorem_match.proofs.World.{invariant-anew}
 use Rattle.theorem_effects.proofs.Values.{all-coming}
 use Rattle.theorem_take_parcel_unmet.specs.Returning.{IsReturning}
 use Rattle.theorem_take_parcel_unmet.proofs.Returning.{carried, links-returned, not-here, right-returned}

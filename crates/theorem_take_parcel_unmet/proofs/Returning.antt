@@ -46,8 +46,8 @@ use Rattle.theorem_meaning.specs.Fields.{Stand, At, Flying, HasFields, IsAsking,
 use Rattle.theorem_meaning.specs.Invariant.{AreNamed, AreRight, AreSentOnce, IsBackRight, IsPacketRight, IsParcelRight, NamesBelow, is_message_of, is_taken_of, is_unwanted_to}
 use Rattle.theorem_meaning.specs.Packets.{Each, IsBackOf, IsParcelFor, IsParcelOf, IsTakenOf, IsUnderWay, IsUnwantedOf, Links, how_many, one_if, values_for, values_of}
 use Rattle.theorem_meaning.specs.StandsFor.{AreLinksOf, IsEndOf, IsInMessage, IsInwardOf, IsWaitingWith, entry_at, home_of, standing}
-use Rattle.theorem_take_silent.proofs.Alike.{some-same}
-use Rattle.theorem_take_silent.proofs.Places.{fields-here}
+use Rattle.theorem_match.proofs.Alike.{some-same}
+use Rattle.theorem_match.proofs.Places.{fields-here}
 use Rattle.theorem_match.specs.Carrying.{HasLeft, IsAway, IsCarrying, IsTurned}
 use Rattle.theorem_match.proofs.Carrying.{asked-carried, away-here, away-value, cancelling-carried, counted-carried, few-carried, honest-carried, marked-carried, owned-carried, right-carried, served-carried, still, wanted-carried}
 use Rattle.theorem_match.proofs.Sending.{left-away}

@@ -10,9 +10,9 @@ use Rattle.end_table.specs.declared.entry.Entry.TheVariants as entry
 use Rattle.end_table.specs.declared.entry.HereView.{HereView}
 use Rattle.kernel_step.specs.Rows.{is_here}
 use Rattle.theorem_effects.proofs.Lists.{none-there}
-use Rattle.theorem_meaning.specs.Fields.{value_of}
-use Rattle.theorem_meaning.specs.Invariant.{is_message_of, is_taken_of, is_unwanted_to}
-use Rattle.theorem_meaning.specs.Packets.{IsBackOf, IsParcelFor, IsParcelOf, IsTakenOf, IsUnwantedOf, values_for, values_of}
+use Rattle.theorem_effects.specs.Fields.{value_of}
+use Rattle.theorem_effects.specs.Invariant.{is_message_of, is_taken_of, is_unwanted_to}
+use Rattle.theorem_effects.specs.Packets.{IsBackOf, IsParcelFor, IsParcelOf, IsTakenOf, IsUnwantedOf, values_for, values_of}
 use Rattle.theorem_take_silent.specs.Quiet.{IsAlike, IsQuietly, IsViewAlike, is_telling}
 
 pub IsQuietly-same : (x : Entry) → IsQuietly x x

@@ -26,12 +26,12 @@ use Rattle.theorem_effects.proofs.Lists.{none-there}
 use Rattle.theorem_effects.proofs.Packets.{each-after, left-before, left_or_sent, under_way-still, under_way-was}
 use Rattle.theorem_effects.proofs.Sums.{sum_over-same}
 use Rattle.theorem_effects.specs.Change.{Change, Changes}
-use Rattle.theorem_meaning.proofs.Plain.{none-in}
-use Rattle.theorem_meaning.proofs.Sums.{over-same}
-use Rattle.theorem_meaning.specs.Fields.{Stand, At, Flying, HasFields, IsAskedAs, IsHeard, IsNoMore}
-use Rattle.theorem_meaning.specs.Invariant.{AreAsked, AreCounted, AreMarked, AreNamed, AreRight, AreSentOnce, AreWanted, IsFew, IsHereIfLiving, IsHonest, IsPacketRight, IsUnwantedOnce, IsServed, NamesBelow, is_message_of, is_taken_of, is_unwanted_to}
-use Rattle.theorem_meaning.specs.Packets.{Each, IsBackOf, IsParcelFor, IsParcelOf, IsTakenOf, IsUnderWay, IsUnwantedOf, Links, how_many, one_if, over_kernels, sum_over, values_for, values_of}
-use Rattle.theorem_meaning.specs.StandsFor.{AreLinksOf, IsEndOf, IsInMessage, IsInwardOf, IsOutwardOf, IsWaitingWith, entry_at, home_of, standing}
+use Rattle.theorem_effects.proofs.Plain.{none-in}
+use Rattle.theorem_effects.proofs.TheoremMeaningSums.{over-same}
+use Rattle.theorem_effects.specs.Fields.{Stand, At, Flying, HasFields, IsAskedAs, IsHeard, IsNoMore}
+use Rattle.theorem_effects.specs.Invariant.{AreAsked, AreCounted, AreMarked, AreNamed, AreRight, AreSentOnce, AreWanted, IsFew, IsHereIfLiving, IsHonest, IsPacketRight, IsUnwantedOnce, IsServed, NamesBelow, is_message_of, is_taken_of, is_unwanted_to}
+use Rattle.theorem_effects.specs.Packets.{Each, IsBackOf, IsParcelFor, IsParcelOf, IsTakenOf, IsUnderWay, IsUnwantedOf, Links, how_many, one_if, over_kernels, sum_over, values_for, values_of}
+use Rattle.theorem_effects.specs.StandsFor.{AreLinksOf, IsEndOf, IsInMessage, IsInwardOf, IsOutwardOf, IsWaitingWith, entry_at, home_of, standing}
 use Rattle.theorem_take_silent.specs.Quiet.{IsAlike, IsGoneWell, IsQuiet, IsQuietly, IsSentWell, IsViewAlike, is_telling}
 use Rattle.theorem_take_silent.proofs.Alike.{IsQuietly-same, back-tells, here-still, here-was, is_here-same, mark-was, message-quiet, parcel-tells, parcel_for-tells, taken-quiet, taken-tells, unwanted-quiet, unwanted-tells, value-tells, value-was, values-quiet, view-was}
 

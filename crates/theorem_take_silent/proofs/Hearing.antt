@@ -12,20 +12,20 @@ use Rattle.end_table.specs.Entries.{is_news, learned}
 use Rattle.end_table.specs.declared.entry.Entry.{Entry}
 use Rattle.end_table.specs.declared.entry.Entry.TheVariants as entry
 use Rattle.end_table.specs.declared.entry.HereView.{HereView}
-use Rattle.kernel_effects.proofs.Uses.{all-append, live-each, news-each}
-use Rattle.kernel_effects.specs.Effect.{Effect, nothing, puts, sent, stays}
-use Rattle.kernel_effects.specs.Rows.{moved_effect, row_effect, unwant_effect, view_news, voids_effect, want_effect, wants_effect}
+use Rattle.theorem_effects.proofs.Uses.{all-append, live-each, news-each}
+use Rattle.theorem_effects.specs.Effect.{Effect, nothing, puts, sent, stays}
+use Rattle.theorem_effects.specs.Rows.{moved_effect, row_effect, unwant_effect, view_news, voids_effect, want_effect, wants_effect}
 use Rattle.kernel_sound.specs.Sound.{addressee}
 use Rattle.kernel_step.specs.Actions.{is_withdrawing, learned_view}
-use Rattle.kernel_world.specs.World.{Takes, World}
+use Rattle.theorem_effects.specs.World.{Takes, World}
 use Rattle.service_step.specs.Ends.{is_made}
 use Rattle.service_step.specs.State.{State}
 use Rattle.service_step.specs.declared.state.End.{End}
 use Rattle.theorem_effects.specs.Sums.{AllSent}
 use Rattle.theorem_effects.specs.Under.{IsTaken}
-use Rattle.theorem_meaning.proofs.Goes.{Goes}
-use Rattle.theorem_meaning.specs.Fields.{IsAskedAs, IsNews, value_of}
-use Rattle.theorem_meaning.specs.Invariant.{Invariant, NamesBelow}
+use Rattle.theorem_effects.proofs.Goes.{Goes}
+use Rattle.theorem_effects.specs.Fields.{IsAskedAs, IsNews, value_of}
+use Rattle.theorem_effects.specs.Invariant.{Invariant, NamesBelow}
 use Rattle.theorem_take_silent.specs.Learning.{IsLive}
 use Rattle.theorem_take_silent.specs.Quiet.{IsQuietly, IsSentWell, is_telling}
 use Rattle.theorem_take_silent.specs.Silent.{IsLearnedAt, IsStill}

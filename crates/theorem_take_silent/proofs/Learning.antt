@@ -18,12 +18,12 @@ use Rattle.theorem_effects.proofs.Aside.{sent-each}
 use Rattle.theorem_effects.proofs.Packets.{left-was, taken-was, under_way-after}
 use Rattle.theorem_effects.specs.Change.{Change, Changes}
 use Rattle.theorem_effects.specs.Under.{IsLeft, IsSent, IsTaken}
-use Rattle.theorem_meaning.proofs.Ends.{opposite-twice}
-use Rattle.theorem_meaning.proofs.Plain.{there-here}
-use Rattle.theorem_meaning.specs.Fields.{Stand, At, Flying, HasFields, IsAskedAs, IsAsking, IsHeard, IsNews, IsNoMore, IsUnserved, IsUnwantOf, value_of}
-use Rattle.theorem_meaning.specs.Invariant.{AreRight, AreWanted}
-use Rattle.theorem_meaning.specs.Packets.{IsUnderWay, Links}
-use Rattle.theorem_meaning.specs.StandsFor.{AreLinksOf, entry_at}
+use Rattle.theorem_effects.proofs.TheoremMeaningEnds.{opposite-twice}
+use Rattle.theorem_effects.proofs.Plain.{there-here}
+use Rattle.theorem_effects.specs.Fields.{Stand, At, Flying, HasFields, IsAskedAs, IsAsking, IsHeard, IsNews, IsNoMore, IsUnserved, IsUnwantOf, value_of}
+use Rattle.theorem_effects.specs.Invariant.{AreRight, AreWanted}
+use Rattle.theorem_effects.specs.Packets.{IsUnderWay, Links}
+use Rattle.theorem_effects.specs.StandsFor.{AreLinksOf, entry_at}
 use Rattle.theorem_take_silent.specs.Learning.{IsLearning, IsLive}
 use Rattle.theorem_take_silent.specs.Quiet.{IsAlike, IsQuiet}
 use Rattle.theorem_take_silent.proofs.Alike.{some-same}

@@ -8,3 +8,14 @@ pub mod Places
 pub mod Learning
 pub mod Hearing
 pub mod Sound
+pub use Rattle.theorem_effects.proofs.Addressees
+pub use Rattle.theorem_effects.proofs.Allowed
+pub use Rattle.theorem_effects.proofs.Aside
+pub use Rattle.theorem_effects.proofs.Ends
+pub use Rattle.theorem_effects.proofs.Events
+pub use Rattle.theorem_effects.proofs.Lists
+pub use Rattle.theorem_effects.proofs.NamedAfter
+pub use Rattle.theorem_effects.proofs.NamedParts
+pub use Rattle.theorem_effects.proofs.Packets
+pub use Rattle.theorem_effects.proofs.Sums
+pub use Rattle.theorem_effects.proofs.Values

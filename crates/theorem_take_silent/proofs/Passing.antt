@@ -13,10 +13,10 @@ use Rattle.theorem_effects.proofs.Aside.{sent-each}
 use Rattle.theorem_effects.proofs.Packets.{left-was, taken-was, under_way-after}
 use Rattle.theorem_effects.specs.Change.{Change, Changes}
 use Rattle.theorem_effects.specs.Under.{IsLeft, IsSent, IsTaken}
-use Rattle.theorem_meaning.specs.Fields.{Stand, At, Flying, HasFields, IsAsking, IsHeard, IsNews, IsUnserved, IsUnwantOf, value_of}
-use Rattle.theorem_meaning.specs.Invariant.{AreRight, AreWanted}
-use Rattle.theorem_meaning.specs.Packets.{IsUnderWay, Links}
-use Rattle.theorem_meaning.specs.StandsFor.{entry_at}
+use Rattle.theorem_effects.specs.Fields.{Stand, At, Flying, HasFields, IsAsking, IsHeard, IsNews, IsUnserved, IsUnwantOf, value_of}
+use Rattle.theorem_effects.specs.Invariant.{AreRight, AreWanted}
+use Rattle.theorem_effects.specs.Packets.{IsUnderWay, Links}
+use Rattle.theorem_effects.specs.StandsFor.{entry_at}
 use Rattle.theorem_take_silent.specs.Quiet.{IsAlike, IsHintOf, IsPassed, IsPassing, IsQuiet, tells_place}
 use Rattle.theorem_take_silent.proofs.Alike.{some-same}
 use Rattle.theorem_take_silent.proofs.Clauses.{fields-was, flying-was, is-still, right-still, withdrawing-still}

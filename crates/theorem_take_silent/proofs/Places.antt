@@ -14,12 +14,12 @@ use Rattle.service_step.specs.declared.state.Place.{Place}
 use Rattle.theorem_effects.proofs.Allowed.{sum_over-least}
 use Rattle.theorem_effects.proofs.Lists.{none-there}
 use Rattle.theorem_effects.proofs.Values.{values-least}
-use Rattle.theorem_meaning.proofs.Plain.{at_most_one}
-use Rattle.theorem_meaning.proofs.Sums.{over-change, over-least}
-use Rattle.theorem_meaning.specs.Fields.{Stand, At, Flying, HasFields, value_of}
-use Rattle.theorem_meaning.specs.Invariant.{AreMarked, AreNamed}
-use Rattle.theorem_meaning.specs.Packets.{Links, one_if, over_kernels, sum_over, values_for, values_of}
-use Rattle.theorem_meaning.specs.StandsFor.{entry_at, standing}
+use Rattle.theorem_effects.proofs.Plain.{at_most_one}
+use Rattle.theorem_effects.proofs.TheoremMeaningSums.{over-change, over-least}
+use Rattle.theorem_effects.specs.Fields.{Stand, At, Flying, HasFields, value_of}
+use Rattle.theorem_effects.specs.Invariant.{AreMarked, AreNamed}
+use Rattle.theorem_effects.specs.Packets.{Links, one_if, over_kernels, sum_over, values_for, values_of}
+use Rattle.theorem_effects.specs.StandsFor.{entry_at, standing}
 use Rattle.theorem_take_silent.proofs.Alike.{some-same}
 
 -- two terms are no more than the sum

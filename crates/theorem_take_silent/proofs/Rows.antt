@@ -16,11 +16,11 @@ use Rattle.end_table.specs.Table.{IsOfEnd}
 use Rattle.end_table.specs.declared.entry.Entry.{Entry}
 use Rattle.end_table.specs.declared.entry.Entry.TheVariants as entry
 use Rattle.end_table.specs.declared.entry.HereView.{HereView}
-use Rattle.kernel_effects.proofs.Uses.{forget-each}
+use Rattle.theorem_effects.proofs.Uses.{forget-each}
 use Rattle.charlotte_calls.specs.declared.calls.ServiceStep.TheVariants as step
-use Rattle.kernel_effects.specs.Actions.{forget_packets, learn_effect, notice_effect}
-use Rattle.kernel_effects.specs.Effect.{Effect, nothing, puts, sent, stays}
-use Rattle.kernel_effects.specs.Rows.{forget_effect, gone_effect, goneseen_effect, known_effect, moved_effect, row_effect, unwant_effect, view_news, voids_effect, want_effect, wants_effect}
+use Rattle.theorem_effects.specs.Actions.{forget_packets, learn_effect, notice_effect}
+use Rattle.theorem_effects.specs.Effect.{Effect, nothing, puts, sent, stays}
+use Rattle.theorem_effects.specs.Rows.{forget_effect, gone_effect, goneseen_effect, known_effect, moved_effect, row_effect, unwant_effect, view_news, voids_effect, want_effect, wants_effect}
 use Rattle.kernel_step.specs.Actions.{is_withdrawing}
 use Rattle.kernel_sound.specs.Sound.{addressee}
 use Rattle.service_lawful.specs.Consistent.{is_open}
@@ -29,9 +29,9 @@ use Rattle.service_step.specs.declared.state.End.{End}
 use Rattle.service_step.specs.declared.state.Place.{Place}
 use Rattle.service_step.specs.declared.state.Place.TheVariants as place
 use Rattle.theorem_effects.specs.Sums.{AllSent}
-use Rattle.theorem_meaning.proofs.Ends.{opposite-twice}
-use Rattle.theorem_meaning.specs.Fields.{IsNews, value_of}
-use Rattle.theorem_meaning.specs.Invariant.{NamesBelow}
+use Rattle.theorem_effects.proofs.TheoremMeaningEnds.{opposite-twice}
+use Rattle.theorem_effects.specs.Fields.{IsNews, value_of}
+use Rattle.theorem_effects.specs.Invariant.{NamesBelow}
 use Rattle.theorem_take_silent.specs.Quiet.{IsAlike, IsQuietly, IsSentWell, tells_place}
 use Rattle.theorem_take_silent.specs.Silent.{IsRepeated, IsSilentAt, IsStill}
 use Rattle.theorem_take_silent.proofs.Alike.{IsQuietly-same, some-same}

@@ -3,8 +3,8 @@ use Rattle.std.proofs.Common.{◌≡◌, ℕ, true, [], refl, sym, subst, ◌∙
 use Rattle.charlotte_calls.specs.declared.names.EndId.{EndId}
 use Rattle.charlotte_packets.specs.declared.picture.PictureWhat.{PictureWhat}
 use Rattle.end_table.specs.declared.entry.Entry.{Entry}
-use Rattle.kernel_effects.specs.Rows.{row_effect, values_in}
-use Rattle.kernel_outcomes.proofs.Events.{row-does}
+use Rattle.theorem_effects.specs.Rows.{row_effect, values_in}
+use Rattle.theorem_effects.proofs.Events.{row-does}
 use Rattle.kernel_sound.proofs.Goes.{GoesWell}
 use Rattle.kernel_sound.proofs.Rows.{row-well}
 use Rattle.kernel_sound.specs.Sound.{IsSound}

@@ -10,15 +10,15 @@ use Rattle.charlotte_packets.specs.declared.picture.Picture.{Picture}
 use Rattle.charlotte_packets.specs.declared.picture.PictureWhat.{PictureWhat}
 use Rattle.charlotte_packets.specs.declared.picture.PictureWhat.TheVariants as packet
 use Rattle.end_table.specs.declared.entry.Entry.{Entry}
-use Rattle.kernel_effects.specs.Effect.{Effect}
-use Rattle.kernel_effects.specs.Rows.{row_effect, values_in}
-use Rattle.kernel_outcomes.proofs.Events.{take-gives}
-use Rattle.kernel_outcomes.specs.Closing.{EffectGives}
+use Rattle.theorem_effects.specs.Effect.{Effect}
+use Rattle.theorem_effects.specs.Rows.{row_effect, values_in}
+use Rattle.theorem_effects.proofs.Events.{take-gives}
+use Rattle.theorem_effects.specs.Closing.{EffectGives}
 use Rattle.kernel_sound.specs.Sound.{IsSound, addressee}
 use Rattle.kernel_step.proofs.Folds.{AreDifferent}
 use Rattle.kernel_step.specs.Kernel.{Kernel, next_stamp, take_step}
 use Rattle.kernel_step.specs.Rows.{ends_in}
-use Rattle.kernel_world.specs.World.{World, Takes, happens}
+use Rattle.theorem_effects.specs.World.{World, Takes, happens}
 use Rattle.service_lawful.specs.Consistent.{is_open}
 use Rattle.service_step.specs.Ends.{is_made}
 use Rattle.service_step.specs.State.{State}
@@ -27,10 +27,10 @@ use Rattle.theorem_effects.proofs.Happens.{takes-happens}
 use Rattle.theorem_effects.proofs.Lists.{first, none-there}
 use Rattle.theorem_effects.specs.Change.{Change, Happens}
 use Rattle.theorem_effects.specs.Events.{taking}
-use Rattle.theorem_meaning.proofs.Goes.{Goes}
-use Rattle.theorem_meaning.specs.Fields.{IsNews}
-use Rattle.theorem_meaning.specs.Invariant.{AreRight, Invariant, IsPacketRight}
-use Rattle.theorem_meaning.specs.Packets.{links_of}
+use Rattle.theorem_effects.proofs.Goes.{Goes}
+use Rattle.theorem_effects.specs.Fields.{IsNews}
+use Rattle.theorem_effects.specs.Invariant.{AreRight, Invariant, IsPacketRight}
+use Rattle.theorem_effects.specs.Packets.{links_of}
 use Rattle.theorem_take_silent.specs.Quiet.{IsGoneWell, IsHintOf, IsPassed, IsPassing, IsQuiet, IsSentWell, is_telling, tells_place}
 use Rattle.theorem_take_silent.specs.Silent.{IsRepeated, IsSilentAt, IsStill}
 use Rattle.theorem_take_silent.proofs.Passing.{passing-right}

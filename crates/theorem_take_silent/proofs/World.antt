@@ -12,13 +12,13 @@ use Rattle.end_table.specs.declared.entry.Holder.TheVariants as holder
 use Rattle.kernel_sound.specs.Sound.{AreHeldBy, IsHeldWell, IsSound}
 use Rattle.kernel_step.specs.Actions.{enclosed_of}
 use Rattle.kernel_step.specs.Kernel.{Kernel}
-use Rattle.kernel_world.specs.World.{Event, World, happens}
+use Rattle.theorem_effects.specs.World.{Event, World, happens}
 use Rattle.service_step.specs.State.{State}
 use Rattle.theorem_effects.specs.Change.{Becomes, Change, Happens}
-use Rattle.theorem_meaning.proofs.Goes.{Goes}
-use Rattle.theorem_meaning.specs.Invariant.{AreRight, Invariant, IsOfSetting}
-use Rattle.theorem_meaning.specs.Packets.{links_of}
-use Rattle.theorem_meaning.specs.StandsFor.{IsProcessOf, home_of}
+use Rattle.theorem_effects.proofs.Goes.{Goes}
+use Rattle.theorem_effects.specs.Invariant.{AreRight, Invariant, IsOfSetting}
+use Rattle.theorem_effects.specs.Packets.{links_of}
+use Rattle.theorem_effects.specs.StandsFor.{IsProcessOf, home_of}
 use Rattle.theorem_take_silent.specs.Quiet.{IsQuiet, IsQuietly, IsViewAlike}
 use Rattle.theorem_take_silent.proofs.Alike.{here-still, here-was}
 use Rattle.theorem_take_silent.proofs.Clauses.{entry-quietly, links-still}

@@ -11,8 +11,8 @@ use Rattle.kernel_step.specs.Actions.{is_withdrawing}
 use Rattle.theorem_effects.specs.Change.{Change}
 use Rattle.theorem_effects.specs.Sums.{AllSent}
 use Rattle.theorem_effects.specs.Under.{IsTaken}
-use Rattle.theorem_meaning.specs.Fields.{IsAskedAs, IsNews, value_of}
-use Rattle.theorem_meaning.specs.Packets.{Links}
+use Rattle.theorem_effects.specs.Fields.{IsAskedAs, IsNews, value_of}
+use Rattle.theorem_effects.specs.Packets.{Links}
 use Rattle.theorem_take_silent.specs.Quiet.{tells_place}
 
 -- a packet that says of an end that is at kernel k, with this view, what is true of it

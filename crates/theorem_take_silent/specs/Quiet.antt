@@ -12,9 +12,9 @@ use Rattle.kernel_sound.specs.Sound.{addressee}
 use Rattle.service_lawful.specs.Consistent.{is_open}
 use Rattle.service_step.specs.Ends.{is_made}
 use Rattle.service_step.specs.declared.state.End.{End}
-use Rattle.theorem_meaning.specs.Fields.{IsNews, value_of}
-use Rattle.theorem_meaning.specs.Invariant.{NamesBelow, IsGoneRight}
-use Rattle.theorem_meaning.specs.Packets.{Links}
+use Rattle.theorem_effects.specs.Fields.{IsNews, value_of}
+use Rattle.theorem_effects.specs.Invariant.{NamesBelow, IsGoneRight}
+use Rattle.theorem_effects.specs.Packets.{Links}
 use Rattle.theorem_effects.specs.Change.{Change}
 use Rattle.theorem_effects.specs.Sums.{AllSent}
 use Rattle.theorem_effects.specs.Under.{IsTaken}

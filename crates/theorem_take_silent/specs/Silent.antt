@@ -6,12 +6,12 @@ use Rattle.charlotte_packets.specs.declared.picture.PictureWhat.{PictureWhat}
 use Rattle.charlotte_packets.specs.declared.picture.PictureWhat.TheVariants as packet
 use Rattle.end_table.specs.Table.{IfHere, IsHereAnd}
 use Rattle.end_table.specs.declared.entry.Entry.{Entry}
-use Rattle.kernel_effects.specs.Effect.{Effect}
+use Rattle.theorem_effects.specs.Effect.{Effect}
 use Rattle.service_lawful.specs.Consistent.{is_open}
 use Rattle.service_step.specs.declared.state.End.{End}
 use Rattle.theorem_effects.specs.Sums.{AllSent}
-use Rattle.theorem_meaning.specs.Fields.{IsNews, value_of}
-use Rattle.theorem_meaning.specs.Invariant.{NamesBelow}
+use Rattle.theorem_effects.specs.Fields.{IsNews, value_of}
+use Rattle.theorem_effects.specs.Invariant.{NamesBelow}
 use Rattle.theorem_take_silent.specs.Quiet.{IsQuietly, IsSentWell, tells_place}
 
 -- an effect is quiet at a kernel, y what it keeps of each end

@@ -28,13 +28,13 @@ use Rattle.service_step.specs.State.{State}
 use Rattle.service_step.specs.declared.state.End.{End}
 use Rattle.service_step.specs.declared.state.Place.{Place}
 use Rattle.service_step.specs.declared.state.Place.TheVariants as place
-use Rattle.theorem_effects.proofs.Aside.{sent-each}
-use Rattle.theorem_effects.proofs.Ends.{all_sent-weaker, outward-same}
-use Rattle.theorem_effects.proofs.Lists.{none-there}
-use Rattle.theorem_effects.proofs.Packets.{each-after, left-before, left-was, left_or_sent, under_way-after, under_way-still, under_way-was}
-use Rattle.theorem_effects.proofs.Sums.{sum_over-same}
-use Rattle.theorem_effects.specs.Change.{Change, Changes}
-use Rattle.theorem_effects.specs.Under.{IsLeft, IsSent}
+use Rattle.theorem_take_silent.proofs.Aside.{sent-each}
+use Rattle.theorem_take_silent.proofs.Ends.{all_sent-weaker, outward-same}
+use Rattle.theorem_take_silent.proofs.Lists.{none-there}
+use Rattle.theorem_take_silent.proofs.Packets.{each-after, left-before, left-was, left_or_sent, under_way-after, under_way-still, under_way-was}
+use Rattle.theorem_take_silent.proofs.Sums.{sum_over-same}
+use Rattle.theorem_take_silent.specs.Change.{Change, Changes}
+use Rattle.theorem_take_silent.specs.Under.{IsLeft, IsSent}
 use Rattle.theorem_meaning.proofs.Ends.{opposite-twice}
 use Rattle.theorem_meaning.proofs.Sums.{over-same}
 use Rattle.theorem_meaning.specs.Fields.{Stand, At, Flying, HasFields, IsAskedAs, IsHeard, IsNews, IsNoMore, value_of}

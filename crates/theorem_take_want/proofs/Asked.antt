@@ -25,7 +25,7 @@ use Rattle.service_step.specs.declared.state.End.{End}
 use Rattle.service_step.specs.declared.state.Inward.TheVariants as inward
 use Rattle.service_step.specs.declared.state.Phase.TheVariants as phase
 use Rattle.service_step.specs.declared.state.Place.TheVariants as place
-use Rattle.theorem_effects.proofs.Lists.{first, later}
+use Rattle.theorem_take_silent.proofs.Lists.{first, later}
 use Rattle.theorem_meaning.proofs.Sums.{over-none}
 use Rattle.theorem_meaning.specs.Fields.{Stand, At, HasFields, IsAskedAs, IsAsking, IsUnserved, IsUnwantOf, value_of}
 use Rattle.theorem_meaning.specs.Invariant.{AreRight, IsPacketRight, is_unwanted_to}

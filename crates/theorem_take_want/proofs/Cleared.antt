@@ -12,11 +12,11 @@ use Rattle.kernel_effects.specs.Effect.{puts, stays}
 use Rattle.service_lawful.specs.Consistent.{is_open}
 use Rattle.service_step.specs.Ends.{is_made}
 use Rattle.service_step.specs.State.{State}
-use Rattle.theorem_effects.proofs.Ends.{inward-same}
-use Rattle.theorem_effects.proofs.Lists.{none-there}
-use Rattle.theorem_effects.proofs.Packets.{each-after, under_way-was}
-use Rattle.theorem_effects.proofs.Sums.{sum_over-same}
-use Rattle.theorem_effects.specs.Change.{Change, Changes}
+use Rattle.theorem_take_silent.proofs.Ends.{inward-same}
+use Rattle.theorem_take_silent.proofs.Lists.{none-there}
+use Rattle.theorem_take_silent.proofs.Packets.{each-after, under_way-was}
+use Rattle.theorem_take_silent.proofs.Sums.{sum_over-same}
+use Rattle.theorem_take_silent.specs.Change.{Change, Changes}
 use Rattle.theorem_meaning.specs.Fields.{Stand, At, HasFields, IsAskedAs, IsAsking, IsUnserved, IsUnwantOf, value_of}
 use Rattle.theorem_meaning.specs.Invariant.{AreRight, AreWanted, IsPacketRight, IsServed, IsUnwantedOnce, is_unwanted_to}
 use Rattle.theorem_meaning.specs.Packets.{Each, IsParcelFor, IsUnderWay, IsUnwantedOf, Links, one_if}

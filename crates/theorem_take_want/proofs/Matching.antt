@@ -31,7 +31,7 @@ use Rattle.theorem_meaning.specs.Invariant.{AreRight, is_message_of, is_taken_of
 use Rattle.theorem_meaning.specs.Packets.{IsUnderWay, Links, how_many, one_if, values_of}
 use Rattle.theorem_meaning.specs.StandsFor.{AreLinksOf, IsEnclosed, IsInMessage, IsInwardOf, IsOutwardOf, entry_at, home_of}
 use Rattle.theorem_take_silent.proofs.Places.{here-kernel}
-use Rattle.theorem_effects.proofs.Values.{value-found}
+use Rattle.theorem_take_silent.proofs.Values.{value-found}
 use Rattle.theorem_meaning.proofs.Plain.{there-here, waiting-so}
 use Rattle.theorem_take_want.proofs.Anew.{view_or}
 use Rattle.theorem_take_want.proofs.Asked.{had, lives, opened, own-fields, unaware}

@@ -3,8 +3,8 @@ use Rattle.std.proofs.Common.{◌≡◌, ℕ, Bool, true, false, nat_eq, if◌th
 use Rattle.charlotte_calls.specs.declared.names.EndId.{EndId}
 use Rattle.charlotte_packets.specs.declared.picture.PictureWhat.{PictureWhat}
 use Rattle.end_table.specs.declared.entry.Entry.{Entry}
-use Rattle.theorem_effects.proofs.Lists.{going, going-first}
-use Rattle.theorem_effects.specs.Change.{Change, Changes, sent_at, taken_at, taken_from}
+use Rattle.theorem_take_silent.proofs.Lists.{going, going-first}
+use Rattle.theorem_take_silent.specs.Change.{Change, Changes, sent_at, taken_at, taken_from}
 use Rattle.theorem_meaning.specs.Packets.{Links}
 
 -- lists of packets that go one after the other

@@ -28,10 +28,10 @@ use Rattle.service_lawful.specs.Consistent.{IsConsistent}
 use Rattle.service_step.specs.Ends.{is_made}
 use Rattle.service_step.specs.State.{State}
 use Rattle.service_step.specs.Steps.{IsServiceStep}
-use Rattle.theorem_effects.proofs.Lists.{first}
-use Rattle.theorem_effects.specs.Change.{Change, Changes, Happens}
-use Rattle.theorem_effects.specs.Events.{taking}
-use Rattle.theorem_effects.specs.Under.{IsTaken}
+use Rattle.theorem_take_silent.proofs.Lists.{first}
+use Rattle.theorem_take_silent.specs.Change.{Change, Changes, Happens}
+use Rattle.theorem_take_silent.specs.Events.{taking}
+use Rattle.theorem_take_silent.specs.Under.{IsTaken}
 use Rattle.theorem_meaning.proofs.Goes.{Goes}
 use Rattle.theorem_meaning.specs.Fields.{IsAsking, IsNews, IsUnwantOf}
 use Rattle.theorem_meaning.specs.Invariant.{AreRight, Invariant}

@@ -23,11 +23,11 @@ use Rattle.service_step.specs.Steps.{may_withdraw}
 use Rattle.service_step.specs.declared.state.End.{End}
 use Rattle.service_step.specs.declared.state.Inward.TheVariants as inward
 use Rattle.service_step.specs.declared.state.Place.TheVariants as place
-use Rattle.theorem_effects.proofs.Ends.{inward-same}
-use Rattle.theorem_effects.proofs.Lists.{first, only-there}
-use Rattle.theorem_effects.proofs.Packets.{each-after, under_way-sent}
-use Rattle.theorem_effects.proofs.Sums.{sum_over-after}
-use Rattle.theorem_effects.specs.Change.{Change, Changes}
+use Rattle.theorem_take_silent.proofs.Ends.{inward-same}
+use Rattle.theorem_take_silent.proofs.Lists.{first, only-there}
+use Rattle.theorem_take_silent.proofs.Packets.{each-after, under_way-sent}
+use Rattle.theorem_take_silent.proofs.Sums.{sum_over-after}
+use Rattle.theorem_take_silent.specs.Change.{Change, Changes}
 use Rattle.theorem_meaning.proofs.Ends.{eq-same, opposite-twice}
 use Rattle.theorem_meaning.specs.Fields.{Stand, At, HasFields, IsAskedAs, IsAsking, IsUnserved, IsUnwantOf}
 use Rattle.theorem_meaning.specs.Invariant.{AreRight, AreWanted, IsPacketRight, IsServed, IsUnwantedOnce, is_unwanted_to}

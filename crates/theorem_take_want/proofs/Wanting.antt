@@ -27,13 +27,13 @@ use Rattle.kernel_world.specs.World.{Takes, World, happens}
 use Rattle.service_lawful.specs.Consistent.{is_open}
 use Rattle.service_step.specs.Ends.{is_living, is_made, is_posted}
 use Rattle.service_step.specs.State.{State}
-use Rattle.theorem_effects.proofs.Aside.{sent-each}
-use Rattle.theorem_effects.proofs.Lists.{first}
-use Rattle.theorem_effects.proofs.Packets.{under_way-was}
-use Rattle.theorem_effects.specs.Change.{Change, Changes, Happens}
-use Rattle.theorem_effects.specs.Events.{taking}
-use Rattle.theorem_effects.specs.Sums.{AllSent}
-use Rattle.theorem_effects.specs.Under.{IsTaken}
+use Rattle.theorem_take_silent.proofs.Aside.{sent-each}
+use Rattle.theorem_take_silent.proofs.Lists.{first}
+use Rattle.theorem_take_silent.proofs.Packets.{under_way-was}
+use Rattle.theorem_take_silent.specs.Change.{Change, Changes, Happens}
+use Rattle.theorem_take_silent.specs.Events.{taking}
+use Rattle.theorem_take_silent.specs.Sums.{AllSent}
+use Rattle.theorem_take_silent.specs.Under.{IsTaken}
 use Rattle.theorem_meaning.proofs.Ends.{opposite-apart, opposite-twice}
 use Rattle.theorem_meaning.proofs.Goes.{Goes}
 use Rattle.theorem_meaning.specs.Fields.{At, HasFields, IsAsking, IsNews, value_of}

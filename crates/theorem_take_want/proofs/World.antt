@@ -15,7 +15,7 @@ use Rattle.kernel_world.specs.World.{World}
 use Rattle.service_lawful.specs.Consistent.{IsConsistent}
 use Rattle.service_step.specs.State.{State}
 use Rattle.service_step.specs.declared.state.End.{End}
-use Rattle.theorem_effects.specs.Change.{Becomes, Change}
+use Rattle.theorem_take_silent.specs.Change.{Becomes, Change}
 use Rattle.theorem_meaning.specs.Invariant.{AreRight, Invariant, IsOfSetting}
 use Rattle.theorem_meaning.specs.Packets.{links_of}
 use Rattle.theorem_meaning.specs.StandsFor.{AreLinksOf, IsProcessOf, home_of}

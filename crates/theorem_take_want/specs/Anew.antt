@@ -11,8 +11,8 @@ use Rattle.kernel_effects.specs.Effect.{puts, stays}
 use Rattle.service_lawful.specs.Consistent.{is_open}
 use Rattle.service_step.specs.State.{State}
 use Rattle.service_step.specs.declared.state.End.{End}
-use Rattle.theorem_effects.specs.Change.{Change}
-use Rattle.theorem_effects.specs.Sums.{AllSent}
+use Rattle.theorem_take_silent.specs.Change.{Change}
+use Rattle.theorem_take_silent.specs.Sums.{AllSent}
 use Rattle.theorem_meaning.specs.Packets.{Links}
 
 -- a value differs from another at most in what it keeps of the receives of the opposite end

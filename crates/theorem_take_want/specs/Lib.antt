@@ -1,1 +1,9 @@
 pub mod Anew
+pub use Rattle.theorem_take_silent.specs.Change
+pub use Rattle.theorem_take_silent.specs.Events
+pub use Rattle.theorem_take_silent.specs.Learning
+pub use Rattle.theorem_take_silent.specs.Named
+pub use Rattle.theorem_take_silent.specs.Quiet
+pub use Rattle.theorem_take_silent.specs.Silent
+pub use Rattle.theorem_take_silent.specs.Sums
+pub use Rattle.theorem_take_silent.specs.Under

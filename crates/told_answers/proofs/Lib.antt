@@ -7,3 +7,6 @@ pub mod Taken
 pub mod Run
 pub mod Called
 pub mod Local
+pub use Rattle.local_runs.proofs.Kernels
+pub use Rattle.local_runs.proofs.Record
+pub use Rattle.local_runs.proofs.Together

@@ -15,7 +15,7 @@ use Rattle.kernel_step.specs.Kernel.{Kernel, process_of}
 use Rattle.kernel_step.specs.Start.{Wired, home, keeps_at, nothing_wired, owned_from_start, start_kernel, wired, wires_one}
 use Rattle.kernel_step.specs.declared.phase.Phase.TheVariants.{Running}
 use Rattle.local_runs.specs.Local.{IsLocalEvent, IsLocalRun, LocalEvent, MakesCall, TakesPacket, entries_of, entry_of, gives, happened, left_by}
-use Rattle.theorem.proofs.Start.{starts-well}
+use Rattle.local_runs.proofs.Start.{starts-well}
 use Rattle.told_answers.proofs.Called.{call-stepped}
 use Rattle.told_answers.proofs.Cancellers.{canceller}
 use Rattle.told_answers.proofs.Run.{AsTold, Stepped, running-not_cancelling, take-stepped}

@@ -1,2 +1,5 @@
 pub mod Told
 pub mod Standing
+pub use Rattle.local_runs.specs.Law
+pub use Rattle.local_runs.specs.Local
+pub use Rattle.local_runs.specs.Record

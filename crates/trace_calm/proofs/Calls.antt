@@ -40,13 +40,13 @@ use Rattle.kernel_world.specs.Run.{IsAllowed}
 use Rattle.kernel_world.specs.World.{Calls, World, happens}
 use Rattle.service_step.specs.State.{State}
 use Rattle.service_step.specs.declared.state.End.{End}
-use Rattle.theorem_effects.proofs.Allowed.{performs-allowed}
-use Rattle.theorem_effects.proofs.Ends.{all_sent-weaker}
-use Rattle.theorem_effects.proofs.Happens.{refused-happens}
-use Rattle.theorem_effects.specs.Change.{Change, Changes, Happens}
-use Rattle.theorem_effects.specs.Events.{caller, calling, refusing}
-use Rattle.theorem_effects.specs.Sums.{AllSent}
-use Rattle.theorem_effects.specs.Under.{IsTaken}
+use Rattle.trace_events.proofs.Allowed.{performs-allowed}
+use Rattle.trace_events.proofs.Ends.{all_sent-weaker}
+use Rattle.trace_events.proofs.Happens.{refused-happens}
+use Rattle.trace_events.specs.Change.{Change, Changes, Happens}
+use Rattle.trace_events.specs.Events.{caller, calling, refusing}
+use Rattle.trace_events.specs.Sums.{AllSent}
+use Rattle.trace_events.specs.Under.{IsTaken}
 use Rattle.theorem_meaning.proofs.Ends.{opposite-twice}
 use Rattle.theorem_meaning.specs.Invariant.{Invariant}
 use Rattle.theorem_meaning.specs.Packets.{Links, links_of, values_of}

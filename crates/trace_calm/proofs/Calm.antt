@@ -13,11 +13,11 @@ use Rattle.service_lawful.specs.Consistent.{is_open}
 use Rattle.service_step.specs.Ends.{is_living}
 use Rattle.service_step.specs.declared.state.End.{End}
 use Rattle.service_step.specs.declared.state.Place.TheVariants as place
-use Rattle.theorem_effects.proofs.Aside.{sent-each}
-use Rattle.theorem_effects.proofs.Lists.{none-there}
-use Rattle.theorem_effects.proofs.Packets.{taken-was, under_way-after, under_way-sent, left-was}
-use Rattle.theorem_effects.specs.Change.{Change, Changes}
-use Rattle.theorem_effects.specs.Under.{IsLeft, IsSent, IsTaken}
+use Rattle.trace_events.proofs.TheoremEffectsAside.{sent-each}
+use Rattle.trace_events.proofs.Lists.{none-there}
+use Rattle.trace_events.proofs.Packets.{taken-was, under_way-after, under_way-sent, left-was}
+use Rattle.trace_events.specs.Change.{Change, Changes}
+use Rattle.trace_events.specs.Under.{IsLeft, IsSent, IsTaken}
 use Rattle.theorem_meaning.proofs.Ends.{opposite-twice}
 use Rattle.theorem_meaning.proofs.Plain.{there-here}
 use Rattle.theorem_meaning.specs.Fields.{At, Flying, HasFields, IsAsking, IsHeard, IsNews, IsUnserved, Stand, value_of}

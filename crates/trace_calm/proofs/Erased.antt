@@ -27,16 +27,16 @@ use Rattle.service_lawful.specs.Consistent.{is_open}
 use Rattle.service_step.specs.State.{State}
 use Rattle.service_step.specs.declared.state.End.{End}
 use Rattle.service_step.specs.declared.state.Place.TheVariants as place
-use Rattle.theorem_effects.proofs.Allowed.{takes-allowed}
-use Rattle.theorem_effects.proofs.Aside.{entry-same, fields-same, sent-each}
-use Rattle.theorem_effects.proofs.Ends.{all_sent-weaker}
-use Rattle.theorem_effects.proofs.Lists.{first}
-use Rattle.theorem_effects.proofs.Packets.{taken-was}
-use Rattle.theorem_effects.specs.Aside.{IsKept}
-use Rattle.theorem_effects.specs.Change.{Change, Changes, Happens}
-use Rattle.theorem_effects.specs.Events.{taking}
-use Rattle.theorem_effects.specs.Sums.{AllSent}
-use Rattle.theorem_effects.specs.Under.{IsSent, IsTaken}
+use Rattle.trace_events.proofs.Allowed.{takes-allowed}
+use Rattle.trace_events.proofs.TheoremEffectsAside.{entry-same, fields-same, sent-each}
+use Rattle.trace_events.proofs.Ends.{all_sent-weaker}
+use Rattle.trace_events.proofs.Lists.{first}
+use Rattle.trace_events.proofs.Packets.{taken-was}
+use Rattle.trace_events.specs.Aside.{IsKept}
+use Rattle.trace_events.specs.Change.{Change, Changes, Happens}
+use Rattle.trace_events.specs.Events.{taking}
+use Rattle.trace_events.specs.Sums.{AllSent}
+use Rattle.trace_events.specs.Under.{IsSent, IsTaken}
 use Rattle.theorem_meaning.proofs.Ends.{opposite-twice}
 use Rattle.theorem_meaning.proofs.Plain.{view-same}
 use Rattle.theorem_meaning.specs.Fields.{At, HasFields, Stand, value_of}

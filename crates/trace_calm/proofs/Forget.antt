@@ -15,12 +15,12 @@ use Rattle.kernel_effects.specs.Effect.{Effect, changed, puts, stays}
 use Rattle.kernel_effects.specs.Rows.{forget_effect, row_effect}
 use Rattle.kernel_world.specs.World.{Takes, World, happens}
 use Rattle.service_step.specs.State.{State}
-use Rattle.theorem_effects.proofs.Allowed.{takes-allowed}
-use Rattle.theorem_effects.proofs.Lists.{none-there}
-use Rattle.theorem_effects.proofs.Packets.{taken-was, under_way-before, under_way-left}
-use Rattle.theorem_effects.specs.Change.{Change, Happens}
-use Rattle.theorem_effects.specs.Events.{taking}
-use Rattle.theorem_effects.specs.Under.{IsLeft, IsSent, IsTaken}
+use Rattle.trace_events.proofs.Allowed.{takes-allowed}
+use Rattle.trace_events.proofs.Lists.{none-there}
+use Rattle.trace_events.proofs.Packets.{taken-was, under_way-before, under_way-left}
+use Rattle.trace_events.specs.Change.{Change, Happens}
+use Rattle.trace_events.specs.Events.{taking}
+use Rattle.trace_events.specs.Under.{IsLeft, IsSent, IsTaken}
 use Rattle.theorem_meaning.proofs.Plain.{view-same}
 use Rattle.theorem_meaning.specs.Fields.{At, Flying, HasFields, Stand, value_of}
 use Rattle.theorem_meaning.specs.Invariant.{Invariant}

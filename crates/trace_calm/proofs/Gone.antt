@@ -18,12 +18,12 @@ use Rattle.service_lawful.specs.Consistent.{is_open}
 use Rattle.service_step.specs.Ends.{is_living}
 use Rattle.service_step.specs.State.{State}
 use Rattle.service_step.specs.declared.state.Place.TheVariants as place
-use Rattle.theorem_effects.proofs.Allowed.{takes-allowed}
-use Rattle.theorem_effects.proofs.Aside.{entry-same, fields-same}
-use Rattle.theorem_effects.proofs.Lists.{first, only-there}
-use Rattle.theorem_effects.specs.Change.{Change, Changes, Happens}
-use Rattle.theorem_effects.specs.Events.{taking}
-use Rattle.theorem_effects.specs.Under.{IsSent, IsTaken}
+use Rattle.trace_events.proofs.Allowed.{takes-allowed}
+use Rattle.trace_events.proofs.TheoremEffectsAside.{entry-same, fields-same}
+use Rattle.trace_events.proofs.Lists.{first, only-there}
+use Rattle.trace_events.specs.Change.{Change, Changes, Happens}
+use Rattle.trace_events.specs.Events.{taking}
+use Rattle.trace_events.specs.Under.{IsSent, IsTaken}
 use Rattle.theorem_meaning.proofs.Ends.{opposite-twice}
 use Rattle.theorem_meaning.proofs.Plain.{view-same}
 use Rattle.theorem_meaning.specs.Fields.{At, value_of}

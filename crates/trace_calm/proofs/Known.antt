@@ -24,14 +24,14 @@ use Rattle.kernel_effects.specs.Rows.{known_effect, row_effect}
 use Rattle.kernel_step.specs.Actions.{kernel_numbers}
 use Rattle.kernel_world.specs.World.{Takes, World, happens}
 use Rattle.service_step.specs.State.{State}
-use Rattle.theorem_effects.proofs.Allowed.{takes-allowed}
-use Rattle.theorem_effects.proofs.Aside.{sent-each}
-use Rattle.theorem_effects.proofs.Lists.{first, first_or_later, later, none-there}
-use Rattle.theorem_effects.proofs.Packets.{taken-was, under_way-after, under_way-before, under_way-left, left-was}
-use Rattle.theorem_effects.specs.Change.{Change, Happens}
-use Rattle.theorem_effects.specs.Events.{taking}
-use Rattle.theorem_effects.specs.Sums.{AllSent}
-use Rattle.theorem_effects.specs.Under.{IsLeft, IsSent, IsTaken}
+use Rattle.trace_events.proofs.Allowed.{takes-allowed}
+use Rattle.trace_events.proofs.TheoremEffectsAside.{sent-each}
+use Rattle.trace_events.proofs.Lists.{first, first_or_later, later, none-there}
+use Rattle.trace_events.proofs.Packets.{taken-was, under_way-after, under_way-before, under_way-left, left-was}
+use Rattle.trace_events.specs.Change.{Change, Happens}
+use Rattle.trace_events.specs.Events.{taking}
+use Rattle.trace_events.specs.Sums.{AllSent}
+use Rattle.trace_events.specs.Under.{IsLeft, IsSent, IsTaken}
 use Rattle.theorem_meaning.proofs.Ends.{opposite-apart}
 use Rattle.theorem_meaning.proofs.Plain.{view-same}
 use Rattle.theorem_meaning.specs.Fields.{At, Flying, HasFields, Stand, value_of}

@@ -7,3 +7,10 @@ pub mod Known
 pub mod Marked
 pub mod Erased
 pub mod Gone
+pub use Rattle.theorem_take_silent.proofs.Alike
+pub use Rattle.theorem_take_silent.proofs.Places
+pub use Rattle.trace_events.proofs.Aside
+pub use Rattle.trace_events.proofs.Clauses
+pub use Rattle.trace_events.proofs.One
+pub use Rattle.trace_events.proofs.Open
+pub use Rattle.trace_events.proofs.Tracks

@@ -8,8 +8,8 @@ use Rattle.kernel_step.specs.Rows.{is_here}
 use Rattle.service_step.specs.Ends.{is_living}
 use Rattle.service_step.specs.declared.state.End.{End}
 use Rattle.service_step.specs.declared.state.Place.{Place}
-use Rattle.theorem_effects.proofs.Allowed.{sum_over-least}
-use Rattle.theorem_effects.proofs.Values.{values-least}
+use Rattle.trace_events.proofs.Allowed.{sum_over-least}
+use Rattle.trace_events.proofs.Values.{values-least}
 use Rattle.theorem_meaning.specs.Fields.{At, Flying, HasFields, Stand, value_of}
 use Rattle.theorem_meaning.specs.Invariant.{AreMarked, AreNamed}
 use Rattle.theorem_meaning.specs.Packets.{Links, one_if, over_kernels, sum_over, values_for, values_of}

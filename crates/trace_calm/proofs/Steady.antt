@@ -9,12 +9,12 @@ use Rattle.end_table.specs.declared.entry.Entry.{Entry}
 use Rattle.end_table.specs.declared.entry.Entry.TheVariants as entry
 use Rattle.end_table.specs.declared.entry.HereView.{HereView}
 use Rattle.service_step.specs.declared.state.End.{End}
-use Rattle.theorem_effects.proofs.Aside.{sent-each}
-use Rattle.theorem_effects.proofs.Ends.{all_sent-weaker}
-use Rattle.theorem_effects.proofs.Lists.{none-there}
-use Rattle.theorem_effects.proofs.Packets.{under_way-before, under_way-left}
-use Rattle.theorem_effects.specs.Change.{Change, Changes}
-use Rattle.theorem_effects.specs.Under.{IsLeft, IsSent, IsTaken}
+use Rattle.trace_events.proofs.TheoremEffectsAside.{sent-each}
+use Rattle.trace_events.proofs.Ends.{all_sent-weaker}
+use Rattle.trace_events.proofs.Lists.{none-there}
+use Rattle.trace_events.proofs.Packets.{under_way-before, under_way-left}
+use Rattle.trace_events.specs.Change.{Change, Changes}
+use Rattle.trace_events.specs.Under.{IsLeft, IsSent, IsTaken}
 use Rattle.theorem_meaning.specs.Fields.{At, Flying, HasFields, Stand, value_of}
 use Rattle.theorem_meaning.specs.Packets.{Links, values_of}
 use Rattle.theorem_meaning.specs.StandsFor.{entry_at}

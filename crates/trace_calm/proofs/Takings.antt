@@ -22,12 +22,12 @@ use Rattle.service_step.specs.Ends.{is_living}
 use Rattle.service_step.specs.State.{State}
 use Rattle.service_step.specs.declared.state.End.{End}
 use Rattle.service_step.specs.declared.state.Place.TheVariants as place
-use Rattle.theorem_effects.proofs.Allowed.{takes-allowed}
-use Rattle.theorem_effects.proofs.Lists.{first, none-there, only-there}
-use Rattle.theorem_effects.proofs.Packets.{left_or_sent}
-use Rattle.theorem_effects.specs.Change.{Change, Changes, Happens}
-use Rattle.theorem_effects.specs.Events.{taking}
-use Rattle.theorem_effects.specs.Under.{IsTaken}
+use Rattle.trace_events.proofs.Allowed.{takes-allowed}
+use Rattle.trace_events.proofs.Lists.{first, none-there, only-there}
+use Rattle.trace_events.proofs.Packets.{left_or_sent}
+use Rattle.trace_events.specs.Change.{Change, Changes, Happens}
+use Rattle.trace_events.specs.Events.{taking}
+use Rattle.trace_events.specs.Under.{IsTaken}
 use Rattle.theorem_meaning.proofs.Ends.{opposite-twice}
 use Rattle.theorem_meaning.specs.Fields.{At, value_of}
 use Rattle.theorem_meaning.specs.Invariant.{Invariant}

@@ -19,9 +19,9 @@ use Rattle.service_lawful.specs.Consistent.{is_open}
 use Rattle.service_step.specs.Ends.{is_living}
 use Rattle.service_step.specs.declared.state.End.{End}
 use Rattle.service_step.specs.declared.state.Place.TheVariants as place
-use Rattle.theorem_effects.specs.Change.{Change}
-use Rattle.theorem_effects.specs.Sums.{AllSent}
-use Rattle.theorem_effects.specs.Under.{IsSent, IsTaken}
+use Rattle.trace_events.specs.Change.{Change}
+use Rattle.trace_events.specs.Sums.{AllSent}
+use Rattle.trace_events.specs.Under.{IsSent, IsTaken}
 use Rattle.theorem_meaning.specs.Fields.{HasFields, Stand}
 use Rattle.theorem_meaning.specs.Packets.{Links, values_of}
 use Rattle.theorem_meaning.specs.StandsFor.{entry_at}

@@ -1,2 +1,5 @@
 pub mod Calm
 pub mod Steady
+pub use Rattle.theorem_take_silent.specs.Quiet
+pub use Rattle.trace_events.specs.Had
+pub use Rattle.trace_events.specs.Leading

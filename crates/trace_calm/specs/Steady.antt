@@ -6,9 +6,9 @@ use Rattle.charlotte_packets.specs.declared.picture.MovingPicture.{MovingPicture
 use Rattle.end_table.specs.declared.entry.Entry.TheVariants as entry
 use Rattle.end_table.specs.declared.entry.HereView.{HereView}
 use Rattle.service_step.specs.declared.state.End.{End}
-use Rattle.theorem_effects.specs.Change.{Change}
-use Rattle.theorem_effects.specs.Sums.{AllSent}
-use Rattle.theorem_effects.specs.Under.{IsTaken}
+use Rattle.trace_events.specs.Change.{Change}
+use Rattle.trace_events.specs.Sums.{AllSent}
+use Rattle.trace_events.specs.Under.{IsTaken}
 use Rattle.theorem_meaning.specs.Packets.{Links, values_of}
 use Rattle.theorem_meaning.specs.StandsFor.{entry_at}
 use Rattle.trace_calm.specs.Calm.{IsPassedOn, IsSteadily, IsTrueAsk}

@@ -35,11 +35,11 @@ use Rattle.theorem_effects.proofs.Lists.{first}
 use Rattle.theorem_effects.specs.Change.{Change, Changes, Happens}
 use Rattle.theorem_effects.specs.Events.{taking}
 use Rattle.theorem_effects.specs.Sums.{AllSent}
-use Rattle.theorem_ends_arrived.proofs.Among.{among-told, brings-case, told-among}
-use Rattle.theorem_ends_arrived.proofs.Comes.{values-differ}
-use Rattle.theorem_ends_arrived.proofs.Coming.{flies, never-here, not-here, one-value}
-use Rattle.theorem_ends_arrived.proofs.Values.{each-there}
-use Rattle.theorem_ends_arrived.specs.Arrived.{IsAmong, IsLaden}
+use Rattle.trace_landing.proofs.Among.{among-told, brings-case, told-among}
+use Rattle.trace_landing.proofs.Comes.{values-differ}
+use Rattle.trace_landing.proofs.Coming.{flies, never-here, not-here, one-value}
+use Rattle.trace_landing.proofs.Values.{each-there}
+use Rattle.trace_landing.specs.Arrived.{IsAmong, IsLaden}
 use Rattle.theorem_ends_destroyed.specs.Ending.{IsEnded, IsEnding, IsSendAfter, IsToldOf, Kept, Returned}
 use Rattle.theorem_ends_destroyed.proofs.Facts.{among-same}
 use Rattle.theorem_meaning.proofs.Ends.{opposite-twice}
@@ -50,8 +50,8 @@ use Rattle.theorem_meaning.specs.Packets.{Links, links_of, one_if, values_for}
 use Rattle.theorem_meaning.specs.StandsFor.{IsWaitingWith, entry_at}
 use Rattle.theorem_take_answer.proofs.Meets.{right-first, stands-first}
 use Rattle.theorem_take_back_unmet.proofs.Dropped.{returned-carried, returned-its, returned-other}
-use Rattle.trace_calm.proofs.Known.{contains-flat_map}
-use Rattle.trace_calm.specs.Calm.{AreAsOpen}
+use Rattle.trace_ending.proofs.Known.{contains-flat_map}
+use Rattle.trace_ending.specs.Calm.{AreAsOpen}
 use Rattle.trace_ending.proofs.Ending.{ending-traced}
 use Rattle.trace_ending.specs.Telling.{AreTold, IsGoneAt, IsTold}
 use Rattle.trace_landing.proofs.Carried.{are-carried}

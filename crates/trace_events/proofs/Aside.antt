@@ -16,8 +16,8 @@ use Rattle.theorem_effects.proofs.Lists.{first, later}
 use Rattle.theorem_effects.proofs.Packets.{sent-there, taken-there}
 use Rattle.theorem_effects.specs.Aside.{IsAside}
 use Rattle.theorem_effects.specs.Change.{Change, Changes, sent_at, taken_at}
-use Rattle.theorem_meaning.proofs.Frame.{IsAbout}
-use Rattle.theorem_meaning.specs.Packets.{Links, values_of}
+use Rattle.theorem_effects.proofs.Frame.{IsAbout}
+use Rattle.theorem_effects.specs.Packets.{Links, values_of}
 use Rattle.trace_meaning.proofs.Frame.{IsSameTrack, frame-traced}
 use Rattle.trace_meaning.specs.Traces.{IsTraced}
 

@@ -13,8 +13,8 @@ use Rattle.service_step.specs.declared.state.Place.TheVariants as place
 use Rattle.theorem_effects.proofs.Packets.{each-after, under_way-after, left-was}
 use Rattle.theorem_effects.specs.Change.{Change, Changes}
 use Rattle.theorem_effects.specs.Under.{IsLeft, IsSent, IsTaken}
-use Rattle.theorem_meaning.specs.Fields.{HasFields, IsHeard, IsUnserved, Stand}
-use Rattle.theorem_meaning.specs.Packets.{Each, IsUnderWay, Links}
+use Rattle.theorem_effects.specs.Fields.{HasFields, IsHeard, IsUnserved, Stand}
+use Rattle.theorem_effects.specs.Packets.{Each, IsUnderWay, Links}
 use Rattle.trace_events.proofs.Tracks.{chain-on, going-after, track-after}
 use Rattle.trace_events.specs.Had.{HasSome}
 use Rattle.trace_events.specs.Leading.{IsLeading}

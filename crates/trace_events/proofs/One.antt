@@ -8,7 +8,7 @@ use Rattle.charlotte_packets.specs.declared.picture.PictureWhat.{PictureWhat}
 use Rattle.end_table.proofs.EndEq.{end_eq-refl, end_eq-same}
 use Rattle.end_table.specs.Place.{end_eq}
 use Rattle.end_table.specs.declared.entry.Entry.{Entry}
-use Rattle.kernel_effects.specs.Effect.{stamped}
+use Rattle.theorem_effects.specs.Effect.{stamped}
 use Rattle.kernel_step.specs.Rows.{ends_in}
 use Rattle.kernel_world.specs.World.{to_kernel}
 use Rattle.theorem_effects.proofs.Ends.{all_sent-weaker, taken-weaker}
@@ -16,8 +16,8 @@ use Rattle.theorem_effects.specs.Aside.{IsKept, IsUnbrought}
 use Rattle.theorem_effects.specs.Change.{Change, Changes, sent_at, taken_at, taken_from}
 use Rattle.theorem_effects.specs.Sums.{AllSent}
 use Rattle.theorem_effects.specs.Under.{IsTaken}
-use Rattle.theorem_meaning.specs.Packets.{Links, values_of}
-use Rattle.theorem_meaning.specs.StandsFor.{entry_at}
+use Rattle.theorem_effects.specs.Packets.{Links, values_of}
+use Rattle.theorem_effects.specs.StandsFor.{entry_at}
 
 first-same : (a b : ℕ × Picture) → Some a ≡ Some b → a ≡ b
 first-same a b same = cc

@@ -6,7 +6,7 @@ use Rattle.service_lawful.specs.Consistent.{is_open}
 use Rattle.service_step.specs.Ends.{is_living}
 use Rattle.service_step.specs.declared.state.End.{End}
 use Rattle.service_step.specs.declared.state.Place.TheVariants as place
-use Rattle.theorem_meaning.proofs.Ends.{opposite-twice}
+use Rattle.theorem_effects.proofs.TheoremMeaningEnds.{opposite-twice}
 
 pub open-so : (x : End) → is_living x.place ≡ true → x.noticed ≡ false → is_open x ≡ true
 open-so x lives free = λ i. lives i && (if free i then false else true)

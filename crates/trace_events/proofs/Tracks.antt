@@ -10,8 +10,8 @@ use Rattle.theorem_effects.proofs.Lists.{first, first_or_later, none-there}
 use Rattle.theorem_effects.proofs.Packets.{left-after, left_or_taken, sent-after, taken-there, there-sent}
 use Rattle.theorem_effects.specs.Change.{Change, Changes, sent_at, taken_at, taken_from}
 use Rattle.theorem_effects.specs.Under.{IsTaken}
-use Rattle.theorem_meaning.specs.Packets.{Links}
-use Rattle.theorem_meaning.specs.StandsFor.{entry_at}
+use Rattle.theorem_effects.specs.Packets.{Links}
+use Rattle.theorem_effects.specs.StandsFor.{entry_at}
 use Rattle.trace_events.specs.Leading.{IsLeading}
 use Rattle.trace_meaning.proofs.Chains.{chain-fewer, chain-flying, chain-here, chain-mark, chain-on as chain-further}
 use Rattle.trace_meaning.specs.Words.{HasChain, IsChain, IsFlying, IsGoingTo, IsOnTrack, LeadsOn}

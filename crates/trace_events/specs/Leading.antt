@@ -4,8 +4,8 @@ use Rattle.charlotte_calls.specs.declared.names.EndId.{EndId}
 use Rattle.charlotte_packets.specs.declared.picture.MovingPicture.{MovingPicture}
 use Rattle.charlotte_packets.specs.declared.picture.Picture.{Picture}
 use Rattle.theorem_effects.specs.Change.{Change}
-use Rattle.theorem_meaning.specs.Packets.{Links, values_of}
-use Rattle.theorem_meaning.specs.StandsFor.{entry_at}
+use Rattle.theorem_effects.specs.Packets.{Links, values_of}
+use Rattle.theorem_effects.specs.StandsFor.{entry_at}
 use Rattle.trace_meaning.specs.Words.{HasChain, LeadsOn}
 
 -- chains to x from so many hops or more lead on after an event, by which links w became u

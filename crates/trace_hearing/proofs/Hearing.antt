@@ -25,15 +25,15 @@ use Rattle.theorem_meaning.proofs.Plain.{there-here}
 use Rattle.theorem_meaning.specs.Fields.{At, Flying, HasFields, IsHeard, IsNews, Stand, value_of}
 use Rattle.theorem_meaning.specs.Packets.{IsUnderWay, Links, values_of}
 use Rattle.theorem_meaning.specs.StandsFor.{entry_at}
-use Rattle.theorem_take_silent.proofs.Alike.{some-same}
-use Rattle.theorem_take_silent.specs.Quiet.{tells_place}
+use Rattle.trace_calm.proofs.Alike.{some-same}
+use Rattle.trace_calm.specs.Quiet.{tells_place}
 use Rattle.trace_calm.proofs.Calm.{asks-at}
 use Rattle.trace_calm.specs.Calm.{AreAsOpen}
-use Rattle.trace_events.proofs.Clauses.{announced-on, known-on, left-on, mark-on, reached-on, seen-on, under_way-or}
-use Rattle.trace_events.proofs.Open.{open-so, opposite-free}
-use Rattle.trace_events.proofs.Tracks.{chain-on, track-sent}
-use Rattle.trace_events.specs.Had.{HasSome}
-use Rattle.trace_events.specs.Leading.{IsLeading}
+use Rattle.trace_calm.proofs.Clauses.{announced-on, known-on, left-on, mark-on, reached-on, seen-on, under_way-or}
+use Rattle.trace_calm.proofs.Open.{open-so, opposite-free}
+use Rattle.trace_calm.proofs.Tracks.{chain-on, track-sent}
+use Rattle.trace_calm.specs.Had.{HasSome}
+use Rattle.trace_calm.specs.Leading.{IsLeading}
 use Rattle.trace_hearing.specs.Hearing.{IsHearing, IsMildly, IsRaised, IsTaught, IsTrueNews}
 use Rattle.trace_meaning.proofs.Chains.{chain-here, chain-mark}
 use Rattle.trace_meaning.specs.Traces.{AreTraced, IsAnnounced, IsKnownRight, IsLeftRight, IsMarkRight, IsMet, IsMourned, IsReached, IsSeenRight, IsTelling, IsToldOf, IsTraceRight, IsTrailed}

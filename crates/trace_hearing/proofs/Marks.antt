@@ -31,12 +31,12 @@ use Rattle.theorem_meaning.specs.Fields.{HasFields, IsAsking, IsNews, IsUnserved
 use Rattle.theorem_meaning.specs.Invariant.{Invariant}
 use Rattle.theorem_meaning.specs.Packets.{IsUnderWay, Links, links_of}
 use Rattle.theorem_meaning.specs.StandsFor.{entry_at}
-use Rattle.theorem_take_silent.proofs.Alike.{some-same}
-use Rattle.theorem_take_silent.proofs.Places.{here-living}
-use Rattle.trace_events.proofs.Clauses.{under_way-or}
-use Rattle.trace_events.proofs.One.{bare-unbrought, is-taken, put-had, put-has, put-kept, put-or}
-use Rattle.trace_events.proofs.Open.{destroyed-closed}
-use Rattle.trace_events.specs.Had.{HasSome}
+use Rattle.trace_calm.proofs.Alike.{some-same}
+use Rattle.trace_calm.proofs.Places.{here-living}
+use Rattle.trace_calm.proofs.Clauses.{under_way-or}
+use Rattle.trace_calm.proofs.One.{bare-unbrought, is-taken, put-had, put-has, put-kept, put-or}
+use Rattle.trace_calm.proofs.Open.{destroyed-closed}
+use Rattle.trace_calm.specs.Had.{HasSome}
 use Rattle.trace_hearing.proofs.Hearing.{hearing-traced}
 use Rattle.trace_hearing.specs.Hearing.{IsHearing, IsMildly, IsRaised, IsTaught}
 use Rattle.trace_meaning.specs.Traces.{AreTraced}

@@ -18,8 +18,8 @@ use Rattle.theorem_effects.specs.Under.{IsSent, IsTaken}
 use Rattle.theorem_meaning.specs.Fields.{HasFields, IsNews, IsUnserved, Stand, value_of}
 use Rattle.theorem_meaning.specs.Packets.{Links, values_of}
 use Rattle.theorem_meaning.specs.StandsFor.{entry_at}
-use Rattle.theorem_take_silent.specs.Quiet.{tells_place}
-use Rattle.trace_events.specs.Had.{HasSome}
+use Rattle.trace_calm.specs.Quiet.{tells_place}
+use Rattle.trace_calm.specs.Had.{HasSome}
 use Rattle.trace_meaning.specs.Words.{HasChain, IsGoingTo, IsGoneFrom, IsKnownOf, IsMovedTo}
 
 -- a value stays but for counts, for what was heard, and for what is asked of it

@@ -18,7 +18,7 @@ use Rattle.theorem_ends_arrived.specs.Arrived.{IsAmong, IsLaden}
 use Rattle.theorem_meaning.specs.Fields.{At, Flying, HasFields, Stand, value_of}
 use Rattle.theorem_meaning.specs.Packets.{Links, values_of}
 use Rattle.theorem_meaning.specs.StandsFor.{entry_at}
-use Rattle.theorem_take_silent.proofs.Alike.{some-same}
+use Rattle.theorem_take_want.proofs.Alike.{some-same}
 use Rattle.trace_landing.specs.Landing.{AreCarried}
 
 module _ {i : ℕ} {w v : Links} {c : Change} {b : Changes w c v} {from : ℕ} {q : Picture} {s : State} {f : EndId} (ready : IsLaden i b from q s f) (different : AreDifferent (ends_in (values_of q.what))) where

@@ -51,15 +51,15 @@ use Rattle.theorem_meaning.specs.Fields.{At, Flying, HasFields, IsHeard, IsNews,
 use Rattle.theorem_meaning.specs.Invariant.{Invariant, IsBackRight, IsHonest}
 use Rattle.theorem_meaning.specs.Packets.{IsUnderWay, Links, links_of, values_of}
 use Rattle.theorem_meaning.specs.StandsFor.{entry_at}
-use Rattle.theorem_take_answer.proofs.Meets.{right-first, stands-first}
-use Rattle.theorem_take_silent.proofs.Alike.{some-same}
-use Rattle.theorem_take_silent.proofs.Places.{fields-here, here-living}
+use Rattle.theorem_ends_arrived.proofs.Meets.{right-first, stands-first}
+use Rattle.theorem_take_want.proofs.Alike.{some-same}
+use Rattle.theorem_take_want.proofs.Places.{fields-here, here-living}
 use Rattle.theorem_take_want.proofs.Parts.{between, first-part, last-part, taking_last, untaken}
-use Rattle.trace_calm.proofs.Marked.{kernel-low}
-use Rattle.trace_calm.specs.Calm.{AreAsOpen}
-use Rattle.trace_events.proofs.Clauses.{under_way-or}
-use Rattle.trace_events.proofs.One.{bare-unbrought, put-has, put-kept, put-or}
-use Rattle.trace_events.proofs.Open.{open-so, opposite-free}
+use Rattle.trace_link.proofs.Marked.{kernel-low}
+use Rattle.trace_link.specs.Calm.{AreAsOpen}
+use Rattle.trace_moving.proofs.Clauses.{under_way-or}
+use Rattle.trace_moving.proofs.One.{bare-unbrought, put-has, put-kept, put-or}
+use Rattle.trace_moving.proofs.Open.{open-so, opposite-free}
 use Rattle.trace_landing.proofs.Carried.{are-carried}
 use Rattle.trace_landing.proofs.Landing.{landing-moving}
 use Rattle.trace_landing.proofs.Said.{arrival-there, arrivals-said}

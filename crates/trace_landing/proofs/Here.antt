@@ -37,8 +37,8 @@ use Rattle.theorem_ends_arrived.specs.Arrived.{IsAmong, IsLaden}
 use Rattle.theorem_meaning.specs.Invariant.{Invariant, is_message_of}
 use Rattle.theorem_meaning.specs.Packets.{Links, links_of, values_of}
 use Rattle.theorem_meaning.specs.StandsFor.{entry_at}
-use Rattle.theorem_take_silent.proofs.Places.{here-living}
-use Rattle.trace_calm.specs.Calm.{AreAsOpen}
+use Rattle.theorem_take_want.proofs.Places.{here-living}
+use Rattle.trace_link.specs.Calm.{AreAsOpen}
 use Rattle.trace_landing.proofs.Carried.{are-carried}
 use Rattle.trace_landing.proofs.Landing.{landing-moving}
 use Rattle.trace_landing.proofs.Told.{told-here, told-still}

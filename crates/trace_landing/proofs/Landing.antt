@@ -25,8 +25,8 @@ use Rattle.theorem_ends_arrived.specs.Arrived.{IsAmong}
 use Rattle.theorem_meaning.specs.Fields.{At, Flying, HasFields, Stand, value_of}
 use Rattle.theorem_meaning.specs.Packets.{Links, values_of}
 use Rattle.theorem_meaning.specs.StandsFor.{entry_at}
-use Rattle.theorem_take_silent.proofs.Alike.{some-same}
-use Rattle.trace_events.proofs.One.{is-taken}
+use Rattle.theorem_take_want.proofs.Alike.{some-same}
+use Rattle.trace_moving.proofs.One.{is-taken}
 use Rattle.trace_landing.proofs.Said.{said-asks, said-back, said-bare, said-news, said-parcel, said-plain}
 use Rattle.trace_landing.specs.Landing.{AreCarried, IsLanding, IsMessage, IsSaid}
 use Rattle.trace_meaning.proofs.Chains.{chain-here}

@@ -40,10 +40,10 @@ use Rattle.theorem_meaning.specs.Fields.{At, Flying, HasFields, Stand, value_of}
 use Rattle.theorem_meaning.specs.Invariant.{Invariant, is_message_of}
 use Rattle.theorem_meaning.specs.Packets.{Links, links_of, values_of}
 use Rattle.theorem_meaning.specs.StandsFor.{entry_at}
-use Rattle.theorem_take_answer.proofs.Meets.{stands-first}
-use Rattle.theorem_take_silent.proofs.Places.{here-living}
-use Rattle.trace_calm.specs.Calm.{AreAsOpen}
-use Rattle.trace_events.proofs.One.{is-taken}
+use Rattle.theorem_ends_arrived.proofs.Meets.{stands-first}
+use Rattle.theorem_take_want.proofs.Places.{here-living}
+use Rattle.trace_link.specs.Calm.{AreAsOpen}
+use Rattle.trace_moving.proofs.One.{is-taken}
 use Rattle.trace_landing.proofs.Carried.{are-carried, not-left}
 use Rattle.trace_landing.specs.Landing.{AreCarried}
 use Rattle.trace_meaning.proofs.Chains.{chain-flying}

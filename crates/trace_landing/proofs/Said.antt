@@ -24,8 +24,8 @@ use Rattle.theorem_meaning.proofs.Plain.{there-here}
 use Rattle.theorem_meaning.specs.Fields.{IsAsking, IsNews}
 use Rattle.theorem_meaning.specs.Packets.{Links, values_of}
 use Rattle.theorem_meaning.specs.StandsFor.{entry_at}
-use Rattle.trace_calm.proofs.Known.{contains-flat_map}
-use Rattle.trace_hearing.proofs.Marks.{learned-taught}
+use Rattle.trace_link.proofs.Known.{contains-flat_map}
+use Rattle.trace_moving.proofs.Marks.{learned-taught}
 use Rattle.trace_landing.specs.Landing.{IsSaid, IsSaidOf}
 use Rattle.trace_meaning.proofs.Chains.{chain-here}
 use Rattle.trace_meaning.specs.Words.{HasChain, IsBackTo, IsParcelTo}

@@ -38,10 +38,10 @@ use Rattle.theorem_meaning.specs.Fields.{IsNews}
 use Rattle.theorem_meaning.specs.Invariant.{Invariant, is_message_of}
 use Rattle.theorem_meaning.specs.Packets.{Links, links_of}
 use Rattle.theorem_meaning.specs.StandsFor.{entry_at}
-use Rattle.theorem_take_silent.proofs.Places.{here-living}
-use Rattle.trace_calm.specs.Calm.{AreAsOpen}
-use Rattle.trace_hearing.proofs.Marks.{learned-taught}
-use Rattle.trace_hearing.specs.Hearing.{IsRaised, IsTaught}
+use Rattle.theorem_take_want.proofs.Places.{here-living}
+use Rattle.trace_link.specs.Calm.{AreAsOpen}
+use Rattle.trace_moving.proofs.Marks.{learned-taught}
+use Rattle.trace_moving.specs.Hearing.{IsRaised, IsTaught}
 use Rattle.trace_landing.proofs.Here.{after, came-here, landed-traced, own-here}
 use Rattle.trace_landing.proofs.Said.{arrival-there, arrivals-said, end-said, news-said}
 use Rattle.trace_landing.specs.Landing.{IsSaid}

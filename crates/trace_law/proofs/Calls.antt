@@ -55,10 +55,10 @@ use Rattle.theorem_meaning.specs.Invariant.{Invariant}
 use Rattle.theorem_meaning.specs.Packets.{Links, links_of, one_if}
 use Rattle.theorem_meaning.specs.StandsFor.{home_of, standing}
 use Rattle.theorem_take_silent.proofs.Places.{here-living}
-use Rattle.trace_calm.proofs.Calls.{call-traced, refused-traced}
-use Rattle.trace_calm.specs.Calm.{AreAsOpen, IsCalmCall}
-use Rattle.trace_ending.proofs.Calls.{destroy-traced, exit-once, exit-traced}
-use Rattle.trace_link.proofs.Make.{make-traced}
+use Rattle.trace_dropping.proofs.Calls.{call-traced, refused-traced}
+use Rattle.trace_dropping.specs.Calm.{AreAsOpen, IsCalmCall}
+use Rattle.trace_dropping.proofs.TraceEndingCalls.{destroy-traced, exit-once, exit-traced}
+use Rattle.trace_steps.proofs.Make.{make-traced}
 use Rattle.trace_matching.proofs.Sends.{matched-traced}
 use Rattle.trace_meaning.specs.Traces.{AreTraced}
 use Rattle.trace_steps.proofs.Destroys.{AreKept, destroys-one, destroys_each-kept}

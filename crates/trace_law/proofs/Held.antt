@@ -23,8 +23,8 @@ use Rattle.service_step.specs.State.{State}
 use Rattle.service_step.specs.declared.state.Message.{Message}
 use Rattle.service_step.specs.declared.state.Place.{Place}
 use Rattle.service_step.specs.declared.state.Place.TheVariants as place
-use Rattle.theorem_ends_arrived.proofs.Among.{contains-among}
-use Rattle.theorem_ends_arrived.proofs.Owned.{busy-owned}
+use Rattle.trace_dropping.proofs.Among.{contains-among}
+use Rattle.trace_dropping.proofs.Owned.{busy-owned}
 use Rattle.theorem_meaning.proofs.Plain.{there-here, waiting-so}
 use Rattle.theorem_meaning.specs.Fields.{At, Flying}
 use Rattle.theorem_meaning.specs.Invariant.{Invariant}

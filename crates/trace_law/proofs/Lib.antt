@@ -3,3 +3,6 @@ pub mod Takings
 pub mod Calls
 pub mod Held
 pub mod Run
+pub use Rattle.trace_start.proofs.Record
+pub use Rattle.trace_start.proofs.Run as TheoremRun
+pub use Rattle.trace_start.proofs.TheoremStart as Start

@@ -12,9 +12,9 @@ use Rattle.kernel_world.specs.World.{Calls, Event, Takes, World, after, happens,
 use Rattle.service_step.specs.Run.{start_state, state_after}
 use Rattle.service_step.specs.State.{State}
 use Rattle.service_step.specs.declared.state.End.{End}
-use Rattle.theorem.proofs.Run.{goes-event}
-use Rattle.theorem.proofs.Start.{starts-well}
-use Rattle.theorem_call_send.proofs.Version.{run-version}
+use Rattle.trace_start.proofs.Run.{goes-event}
+use Rattle.trace_start.proofs.TheoremStart.{starts-well}
+use Rattle.trace_dropping.proofs.Version.{run-version}
 use Rattle.theorem_meaning.proofs.Goes.{Goes}
 use Rattle.theorem_meaning.specs.Invariant.{Invariant}
 use Rattle.theorem_meaning.specs.Packets.{links_of}

@@ -49,32 +49,32 @@ use Rattle.service_step.specs.declared.state.Place.TheVariants as place
 use Rattle.theorem_effects.proofs.Allowed.{are-oldest, takes-allowed}
 use Rattle.theorem_effects.specs.Change.{Change, Happens}
 use Rattle.theorem_effects.specs.Events.{taking}
-use Rattle.theorem_ends_arrived.proofs.Comes.{values-come}
-use Rattle.theorem_ends_arrived.proofs.Owned.{busy-owned}
+use Rattle.trace_dropping.proofs.Comes.{values-come}
+use Rattle.trace_dropping.proofs.Owned.{busy-owned}
 use Rattle.theorem_meaning.proofs.Ends.{opposite-twice}
 use Rattle.theorem_meaning.proofs.Goes.{Goes}
 use Rattle.theorem_meaning.specs.Fields.{At, IsAsking, value_of}
 use Rattle.theorem_meaning.specs.Invariant.{Invariant, is_message_of}
 use Rattle.theorem_meaning.specs.Packets.{Links, links_of}
 use Rattle.theorem_take_answer.proofs.Meets.{IsOwnedAt}
-use Rattle.theorem_take_back_unmet.proofs.Unmet.{back-meets}
+use Rattle.trace_dropping.proofs.Unmet.{back-meets}
 use Rattle.theorem_take_silent.proofs.Alike.{some-same}
 use Rattle.theorem_take_silent.proofs.Places.{here-living}
-use Rattle.trace_calm.proofs.Erased.{erased-traced}
-use Rattle.trace_calm.proofs.Forget.{forget-traced}
-use Rattle.trace_calm.proofs.Gone.{dead-gone-traced}
-use Rattle.trace_calm.proofs.Known.{known-traced}
-use Rattle.trace_calm.proofs.Takings.{chosen, dropped-traced, passed-over, passed-traced}
-use Rattle.trace_calm.specs.Calm.{AreAsOpen, IsDropped, IsNotWithdrawn}
+use Rattle.trace_dropping.proofs.Erased.{erased-traced}
+use Rattle.trace_dropping.proofs.Forget.{forget-traced}
+use Rattle.trace_dropping.proofs.Gone.{dead-gone-traced}
+use Rattle.trace_dropping.proofs.Known.{known-traced}
+use Rattle.trace_dropping.proofs.Takings.{chosen, dropped-traced, passed-over, passed-traced}
+use Rattle.trace_dropping.specs.Calm.{AreAsOpen, IsDropped, IsNotWithdrawn}
 use Rattle.trace_dropping.proofs.Dropped.{dropped, dropped-traced as back-dropped-traced, returns-dropped}
-use Rattle.trace_hearing.proofs.Marks.{moved-mark-traced}
-use Rattle.trace_landing.proofs.First.{first-returned-traced}
-use Rattle.trace_landing.proofs.Passed.{passed-traced as went-back-traced}
-use Rattle.trace_landing.proofs.Taken.{received-traced, returned-traced}
+use Rattle.trace_dropping.proofs.Marks.{moved-mark-traced}
+use Rattle.trace_dropping.proofs.First.{first-returned-traced}
+use Rattle.trace_dropping.proofs.Passed.{passed-traced as went-back-traced}
+use Rattle.trace_dropping.proofs.Taken.{received-traced, returned-traced}
 use Rattle.trace_law.proofs.Tame.{IsTame, forget-tame, goneseen-tame, known-tame, moved-tame, unwant-tame, want-tame}
-use Rattle.trace_learning.proofs.Learns.{IsUnsent, completed-traced, freed-traced, kept-traced, moved-traced, served-traced, voided-traced}
-use Rattle.trace_link.proofs.Notice.{noticed-traced, noticing}
-use Rattle.trace_link.specs.Closing.{IsDying, aware}
+use Rattle.trace_dropping.proofs.Learns.{IsUnsent, completed-traced, freed-traced, kept-traced, moved-traced, served-traced, voided-traced}
+use Rattle.trace_steps.proofs.Notice.{noticed-traced, noticing}
+use Rattle.trace_steps.specs.Closing.{IsDying, aware}
 use Rattle.trace_matching.proofs.Wants.{want-matched-traced}
 use Rattle.trace_meaning.specs.Traces.{AreTraced}
 use Rattle.trace_steps.proofs.Same.{same-traced}

@@ -1,1 +1,2 @@
 pub mod Law
+pub use Rattle.trace_start.specs.Record

@@ -40,16 +40,16 @@ use Rattle.theorem_meaning.specs.Fields.{At, Flying, HasFields, IsAsking, IsNews
 use Rattle.theorem_meaning.specs.Invariant.{Invariant}
 use Rattle.theorem_meaning.specs.Packets.{IsUnderWay, Links, links_of, values_of}
 use Rattle.theorem_meaning.specs.StandsFor.{entry_at}
-use Rattle.theorem_take_silent.proofs.Alike.{some-same}
-use Rattle.theorem_take_silent.proofs.Places.{fields-here, here-living}
-use Rattle.theorem_take_silent.specs.Quiet.{tells_place}
-use Rattle.trace_calm.proofs.Calls.{steadily-same, told-calm}
-use Rattle.trace_calm.proofs.Steady.{here-so}
-use Rattle.trace_calm.specs.Calm.{AreAsOpen, IsCounted, IsSteadily}
-use Rattle.trace_events.proofs.Clauses.{under_way-or}
-use Rattle.trace_events.proofs.One.{is-taken}
-use Rattle.trace_events.proofs.Tracks.{going-sent}
-use Rattle.trace_events.specs.Had.{HasSome}
+use Rattle.trace_hearing.proofs.Alike.{some-same}
+use Rattle.trace_hearing.proofs.Places.{fields-here, here-living}
+use Rattle.trace_hearing.specs.Quiet.{tells_place}
+use Rattle.trace_hearing.proofs.Calls.{steadily-same, told-calm}
+use Rattle.trace_hearing.proofs.Steady.{here-so}
+use Rattle.trace_hearing.specs.Calm.{AreAsOpen, IsCounted, IsSteadily}
+use Rattle.trace_hearing.proofs.Clauses.{under_way-or}
+use Rattle.trace_hearing.proofs.One.{is-taken}
+use Rattle.trace_hearing.proofs.Tracks.{going-sent}
+use Rattle.trace_hearing.specs.Had.{HasSome}
 use Rattle.trace_hearing.proofs.Hearing.{hearing-traced}
 use Rattle.trace_hearing.proofs.Marks.{mildly-same}
 use Rattle.trace_hearing.specs.Hearing.{IsHearing, IsMildly, IsRaised, IsTaught, IsTrueNews}

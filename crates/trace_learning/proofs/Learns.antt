@@ -39,10 +39,10 @@ use Rattle.theorem_meaning.specs.Fields.{IsAsking, IsNews}
 use Rattle.theorem_meaning.specs.Invariant.{Invariant}
 use Rattle.theorem_meaning.specs.Packets.{IsUnderWay, Links, links_of, values_of}
 use Rattle.theorem_meaning.specs.StandsFor.{entry_at}
-use Rattle.theorem_take_silent.specs.Quiet.{tells_place}
-use Rattle.trace_calm.proofs.Calls.{steadily-same}
-use Rattle.trace_calm.proofs.Takings.{chosen, passed-over}
-use Rattle.trace_calm.specs.Calm.{AreAsOpen, IsSteadily}
+use Rattle.trace_hearing.specs.Quiet.{tells_place}
+use Rattle.trace_hearing.proofs.Calls.{steadily-same}
+use Rattle.trace_hearing.proofs.Takings.{chosen, passed-over}
+use Rattle.trace_hearing.specs.Calm.{AreAsOpen, IsSteadily}
 use Rattle.trace_learning.proofs.Learned.{learned-traced}
 use Rattle.trace_hearing.proofs.Marks.{learned-taught}
 use Rattle.trace_hearing.specs.Hearing.{IsTaught}

@@ -13,7 +13,7 @@ use Rattle.theorem_effects.specs.Sums.{AllSent}
 use Rattle.theorem_meaning.specs.Fields.{IsAsking}
 use Rattle.theorem_meaning.specs.Packets.{IsUnderWay, Links}
 use Rattle.theorem_meaning.specs.StandsFor.{entry_at}
-use Rattle.trace_calm.specs.Calm.{IsSteadily}
+use Rattle.trace_hearing.specs.Calm.{IsSteadily}
 use Rattle.trace_hearing.specs.Hearing.{IsTaught}
 use Rattle.trace_meaning.specs.Words.{IsMovedTo}
 

@@ -4,7 +4,7 @@ use Rattle.charlotte_calls.specs.declared.names.EndId.{EndId}
 use Rattle.end_table.specs.Place.{end_eq}
 use Rattle.theorem_effects.specs.Change.{Change, Changes}
 use Rattle.theorem_meaning.specs.Packets.{Links}
-use Rattle.trace_events.proofs.One.{sent-none, taken-none}
+use Rattle.trace_calm.proofs.One.{sent-none, taken-none}
 
 module _ {w u : Links} {c : Change} (b : Changes w c u) (x : EndId) where
   abbrev pub others_part : Change

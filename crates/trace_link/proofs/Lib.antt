@@ -2,3 +2,5 @@ pub mod Make
 pub mod Apart
 pub mod Own
 pub mod Notice
+pub use Rattle.trace_calm.proofs.Known
+pub use Rattle.trace_calm.proofs.Marked

@@ -28,7 +28,7 @@ use Rattle.theorem_meaning.specs.Fields.{At, IsNews, value_of}
 use Rattle.theorem_meaning.specs.Invariant.{Invariant}
 use Rattle.theorem_meaning.specs.Packets.{IsUnderWay, Links, links_of}
 use Rattle.theorem_meaning.specs.StandsFor.{entry_at, home_of}
-use Rattle.trace_events.proofs.One.{sent-none, taken-none}
+use Rattle.trace_calm.proofs.One.{sent-none, taken-none}
 use Rattle.trace_meaning.proofs.Chains.{chain-here}
 use Rattle.trace_meaning.proofs.Frame.{IsSameTrack, frame-traced, to-forget, to-goneseen, to-known}
 use Rattle.trace_meaning.specs.Traces.{AreTraced, IsLeftRight, IsReached, IsToForget, IsToldOf, IsTraceRight, IsTraced, IsTrailed}

@@ -46,8 +46,8 @@ use Rattle.theorem_meaning.specs.Fields.{At, Flying, HasFields, Stand, value_of}
 use Rattle.theorem_meaning.specs.Invariant.{Invariant, IsPacketRight}
 use Rattle.theorem_meaning.specs.Packets.{IsUnderWay, Links, links_of, values_of}
 use Rattle.theorem_meaning.specs.StandsFor.{entry_at}
-use Rattle.theorem_take_silent.proofs.Alike.{some-same}
-use Rattle.theorem_take_silent.proofs.Places.{fields-here, here-living}
+use Rattle.trace_calm.proofs.Alike.{some-same}
+use Rattle.trace_calm.proofs.Places.{fields-here, here-living}
 use Rattle.trace_calm.proofs.Calls.{steadily-same, told-calm, turns-calm, untaken-steady}
 use Rattle.trace_calm.proofs.Calm.{calm-traced}
 use Rattle.trace_calm.proofs.Known.{forget-there}
@@ -55,12 +55,12 @@ use Rattle.trace_calm.proofs.Marked.{kernel-low}
 use Rattle.trace_calm.proofs.Steady.{here-so, steady-calm}
 use Rattle.trace_calm.specs.Calm.{AreAsOpen, IsCounted, IsSteadily}
 use Rattle.trace_calm.specs.Steady.{IsSteady}
-use Rattle.trace_events.proofs.Aside.{aside-traced}
-use Rattle.trace_events.proofs.Clauses.{left-on, mark-on, seen-on, under_way-or}
-use Rattle.trace_events.proofs.One.{bare-unbrought, is-taken, put-has, put-or, put-was}
-use Rattle.trace_events.proofs.Open.{destroyed-closed, noticed-closed}
-use Rattle.trace_events.proofs.Tracks.{going-sent}
-use Rattle.trace_events.specs.Had.{HasSome}
+use Rattle.trace_calm.proofs.Aside.{aside-traced}
+use Rattle.trace_calm.proofs.Clauses.{left-on, mark-on, seen-on, under_way-or}
+use Rattle.trace_calm.proofs.One.{bare-unbrought, is-taken, put-has, put-or, put-was}
+use Rattle.trace_calm.proofs.Open.{destroyed-closed, noticed-closed}
+use Rattle.trace_calm.proofs.Tracks.{going-sent}
+use Rattle.trace_calm.specs.Had.{HasSome}
 use Rattle.trace_link.proofs.Apart.{middle, others_part, others-changes, own_part, own-changes}
 use Rattle.trace_link.proofs.Own.{noticing-traced}
 use Rattle.trace_link.specs.Closing.{IsDying, IsNoticing}

@@ -32,14 +32,14 @@ use Rattle.theorem_meaning.proofs.Ends.{apart-false, opposite-apart, opposite-tw
 use Rattle.theorem_meaning.specs.Fields.{At, Flying, HasFields, Stand, value_of}
 use Rattle.theorem_meaning.specs.Packets.{IsUnderWay, Links, values_of}
 use Rattle.theorem_meaning.specs.StandsFor.{entry_at}
-use Rattle.theorem_take_silent.proofs.Alike.{some-same}
+use Rattle.trace_calm.proofs.Alike.{some-same}
 use Rattle.trace_calm.proofs.Known.{forget-there}
-use Rattle.trace_events.proofs.Aside.{aside-traced}
-use Rattle.trace_events.proofs.Clauses.{left-on, mark-on, seen-on, under_way-or}
-use Rattle.trace_events.proofs.One.{bare-unbrought, put-has, put-or, put-was}
-use Rattle.trace_events.proofs.Open.{destroyed-closed, noticed-closed}
-use Rattle.trace_events.proofs.Tracks.{going-sent}
-use Rattle.trace_events.specs.Had.{HasSome}
+use Rattle.trace_calm.proofs.Aside.{aside-traced}
+use Rattle.trace_calm.proofs.Clauses.{left-on, mark-on, seen-on, under_way-or}
+use Rattle.trace_calm.proofs.One.{bare-unbrought, put-has, put-or, put-was}
+use Rattle.trace_calm.proofs.Open.{destroyed-closed, noticed-closed}
+use Rattle.trace_calm.proofs.Tracks.{going-sent}
+use Rattle.trace_calm.specs.Had.{HasSome}
 use Rattle.trace_link.specs.Closing.{IsNoticing}
 use Rattle.trace_meaning.specs.Traces.{AreTraced, IsLeftRight, IsMarkRight, IsMourned, IsToForget, IsTraceRight, IsTraced, IsTrailed}
 use Rattle.trace_meaning.specs.Words.{IsForgetOf, IsGoingTo, IsGoneFrom, IsGoneSeen, IsSought}

@@ -1,1 +1,2 @@
 pub mod Closing
+pub use Rattle.trace_calm.specs.Calm

@@ -23,7 +23,7 @@ use Rattle.service_lawful.specs.Consistent.{is_open}
 use Rattle.service_step.specs.Ends.{is_living}
 use Rattle.service_step.specs.State.{State}
 use Rattle.service_step.specs.declared.state.End.{End}
-use Rattle.theorem_call_send.proofs.Granted.{gains}
+use Rattle.trace_landing.proofs.Granted.{gains}
 use Rattle.theorem_effects.proofs.Aside.{not_among, sent-each}
 use Rattle.theorem_effects.proofs.Lists.{first, first_or_later, none-there}
 use Rattle.theorem_effects.proofs.Packets.{left-was, sent-after, under_way-after, under_way-sent}
@@ -39,17 +39,17 @@ use Rattle.theorem_meaning.specs.Packets.{Links, links_of, values_of}
 use Rattle.theorem_meaning.specs.StandsFor.{entry_at}
 use Rattle.theorem_take_silent.proofs.Alike.{some-same}
 use Rattle.theorem_take_silent.proofs.Places.{fields-here, here-kernel, here-living}
-use Rattle.trace_calm.proofs.Known.{contains-flat_map}
-use Rattle.trace_calm.specs.Calm.{AreAsOpen}
+use Rattle.trace_landing.proofs.Known.{contains-flat_map}
+use Rattle.trace_landing.specs.Calm.{AreAsOpen}
 use Rattle.trace_landing.proofs.Said.{said-asks, said-back, said-bare, said-news, said-parcel, said-plain}
 use Rattle.trace_landing.specs.Landing.{IsSaid}
 use Rattle.trace_meaning.proofs.Chains.{chain-flying, chain-here}
 use Rattle.trace_meaning.specs.Traces.{AreTraced}
 use Rattle.trace_meaning.specs.Words.{HasChain, IsBackTo, IsFlying, IsMovedTo, IsParcelTo}
-use Rattle.trace_moving.proofs.Moving.{moving-traced}
-use Rattle.trace_moving.proofs.Onward.{left-none, left-onward, moved-left_entry}
-use Rattle.trace_moving.proofs.Still.{still-same}
-use Rattle.trace_moving.specs.Moving.{IsMovedEntry, IsMover, IsMoving, IsPlain, IsStaying, IsStill}
+use Rattle.trace_landing.proofs.Moving.{moving-traced}
+use Rattle.trace_landing.proofs.Onward.{left-none, left-onward, moved-left_entry}
+use Rattle.trace_landing.proofs.Still.{still-same}
+use Rattle.trace_landing.specs.Moving.{IsMovedEntry, IsMover, IsMoving, IsPlain, IsStaying, IsStill}
 
 -- the value of an end that is here is among those that leave
 leaving-there : (k : ℕ) (t : EndId → Entry) (xs : List EndId) (e : EndId) (o : HereView) → Contains xs e → t e ≡ entry.Here o → Contains (values_leaving k t xs) (left_value k o.value)

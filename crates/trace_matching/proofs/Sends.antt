@@ -23,8 +23,8 @@ use Rattle.kernel_world.specs.World.{Calls, World, happens}
 use Rattle.service_lawful.specs.Consistent.{is_open}
 use Rattle.service_step.specs.State.{State}
 use Rattle.service_step.specs.declared.state.End.{End}
-use Rattle.theorem_call_send.proofs.Granted.{IsFreeToSend}
-use Rattle.theorem_call_send.proofs.Sends.{free, owned-is, waits_effect}
+use Rattle.trace_landing.proofs.Granted.{IsFreeToSend}
+use Rattle.trace_landing.proofs.Sends.{free, owned-is, waits_effect}
 use Rattle.theorem_effects.proofs.Allowed.{performs-allowed}
 use Rattle.theorem_effects.specs.Change.{Change, Happens}
 use Rattle.theorem_effects.specs.Events.{calling}
@@ -34,7 +34,7 @@ use Rattle.theorem_meaning.specs.Invariant.{Invariant}
 use Rattle.theorem_meaning.specs.Packets.{Links, links_of}
 use Rattle.theorem_meaning.specs.StandsFor.{entry_at, home_of}
 use Rattle.theorem_take_silent.proofs.Places.{here-living}
-use Rattle.trace_calm.specs.Calm.{AreAsOpen}
+use Rattle.trace_landing.specs.Calm.{AreAsOpen}
 use Rattle.trace_events.proofs.Open.{open-so}
 use Rattle.trace_matching.proofs.Matching.{departing-traced, told-any}
 use Rattle.trace_meaning.specs.Traces.{AreTraced, IsTraceRight}

@@ -41,16 +41,16 @@ use Rattle.theorem_meaning.specs.Packets.{IsUnderWay, Links, links_of}
 use Rattle.theorem_meaning.specs.StandsFor.{entry_at}
 use Rattle.theorem_take_silent.proofs.Alike.{some-same}
 use Rattle.theorem_take_silent.proofs.Places.{here-living}
-use Rattle.trace_calm.specs.Calm.{AreAsOpen}
-use Rattle.trace_hearing.proofs.Marks.{learned-taught}
+use Rattle.trace_landing.specs.Calm.{AreAsOpen}
+use Rattle.trace_landing.proofs.Marks.{learned-taught}
 use Rattle.trace_landing.proofs.Said.{news-said}
 use Rattle.trace_landing.proofs.Taken.{learned-staying}
-use Rattle.trace_learning.proofs.Learned.{learned-hint}
-use Rattle.trace_learning.proofs.Learns.{learned-like}
+use Rattle.trace_landing.proofs.Learned.{learned-hint}
+use Rattle.trace_landing.proofs.Learns.{learned-like}
 use Rattle.trace_matching.proofs.Matching.{departing-traced}
 use Rattle.trace_matching.proofs.Sends.{here-only}
 use Rattle.trace_meaning.specs.Traces.{AreTraced, IsMarkRight, IsTraceRight}
-use Rattle.trace_moving.specs.Moving.{IsStaying}
+use Rattle.trace_landing.specs.Moving.{IsStaying}
 
 module _ (i : ℕ) (w : World) (s : State) (is : Invariant i w s) (room : i < 2 ^ 31) (k from stamp : ℕ) (to : EndId) (r at hops : ℕ) (others : List Picture)
     (there : w.packets from k ≡ record { stamp = stamp; what = packet.Want to r at hops } ∷ others) (v : HereView) (here : (w.kernel k).table to ≡ entry.Here v) (alive : v.value.dead ≡ false)

@@ -1,3 +1,7 @@
 pub mod Still
 pub mod Onward
 pub mod Moving
+pub use Rattle.trace_events.proofs.Clauses
+pub use Rattle.trace_events.proofs.One
+pub use Rattle.trace_events.proofs.Open
+pub use Rattle.trace_hearing.proofs.Marks

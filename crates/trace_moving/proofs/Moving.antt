@@ -25,7 +25,7 @@ use Rattle.theorem_meaning.specs.Fields.{At, Flying, HasFields, IsAsking, IsHear
 use Rattle.theorem_meaning.specs.Invariant.{IsHonest}
 use Rattle.theorem_meaning.specs.Packets.{IsUnderWay, Links, values_of}
 use Rattle.theorem_meaning.specs.StandsFor.{entry_at}
-use Rattle.trace_calm.specs.Calm.{AreAsOpen}
+use Rattle.trace_hearing.specs.Calm.{AreAsOpen}
 use Rattle.trace_events.proofs.Clauses.{announced-on, known-on, left-on, mark-on, reached-on, seen-on, under_way-or}
 use Rattle.trace_events.proofs.Open.{open-free, open-so, opposite-free}
 use Rattle.trace_events.proofs.Tracks.{chain-on, track-sent}

@@ -9,7 +9,7 @@ use Rattle.end_table.specs.declared.entry.Entry.TheVariants as entry
 use Rattle.end_table.specs.declared.entry.HereView.{HereView}
 use Rattle.theorem_effects.specs.Change.{Change}
 use Rattle.theorem_meaning.specs.Fields.{value_of}
-use Rattle.theorem_take_silent.proofs.Alike.{some-same}
+use Rattle.trace_hearing.proofs.Alike.{some-same}
 use Rattle.trace_hearing.specs.Hearing.{IsRaised}
 use Rattle.trace_meaning.specs.Words.{IsForgetOf, IsGoneFrom, IsGoneSeen, IsKnownOf}
 use Rattle.trace_moving.specs.Moving.{IsPlain, IsStaying, IsStill}

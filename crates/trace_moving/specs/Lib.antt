@@ -1,1 +1,2 @@
 pub mod Moving
+pub use Rattle.trace_hearing.specs.Hearing

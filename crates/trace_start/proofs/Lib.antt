@@ -1,1 +1,4 @@
 pub mod Start
+pub use Rattle.theorem.proofs.Record
+pub use Rattle.theorem.proofs.Run
+pub use Rattle.theorem.proofs.Start as TheoremStart

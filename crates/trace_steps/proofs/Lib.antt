@@ -2,3 +2,5 @@ pub mod Same
 pub mod Words
 pub mod Destroys
 pub mod Steps
+pub use Rattle.trace_link.proofs.Make
+pub use Rattle.trace_link.proofs.Notice

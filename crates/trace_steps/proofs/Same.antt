@@ -11,7 +11,7 @@ use Rattle.service_step.specs.declared.state.End.{End}
 use Rattle.service_step.specs.declared.state.Place.TheVariants as place
 use Rattle.theorem_meaning.specs.Packets.{Links}
 use Rattle.theorem_meaning.specs.StandsFor.{entry_at}
-use Rattle.trace_calm.specs.Calm.{AreAsOpen}
+use Rattle.trace_link.specs.Calm.{AreAsOpen}
 use Rattle.trace_meaning.specs.Traces.{AreTraced, IsLeftRight, IsMarkRight, IsMourned, IsToForget, IsTraceRight, IsTrailed}
 use Rattle.trace_meaning.specs.Words.{HasMark, IsGoingTo, IsGoneFrom, IsGoneSeen, IsOnTrack, IsSought}
 

@@ -17,7 +17,7 @@ use Rattle.service_step.specs.Steps.{IsServiceStep, after_cancel}
 use Rattle.service_step.specs.declared.state.End.{End}
 use Rattle.service_step.specs.declared.state.Inward.TheVariants as inward
 use Rattle.service_step.specs.declared.state.Outward.TheVariants as outward
-use Rattle.trace_calm.specs.Calm.{AreAsOpen}
+use Rattle.trace_link.specs.Calm.{AreAsOpen}
 use Rattle.trace_steps.proofs.Words.{as-open-on, as-open-same, idles-open, matches-open, sends-open, takes-open, turns_inward-open, turns_outward-open, withdraws-open}
 use Rattle.trace_steps.specs.Steps.{AreQuiet, IsPlainStep, IsQuietStep}
 

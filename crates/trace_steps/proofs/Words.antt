@@ -22,7 +22,7 @@ use Rattle.service_step.specs.declared.state.Place.{Place}
 use Rattle.service_step.specs.declared.state.Place.TheVariants as place
 use Rattle.theorem_effects.proofs.Lists.{none-there}
 use Rattle.theorem_meaning.proofs.Ends.{apart-false}
-use Rattle.trace_calm.specs.Calm.{AreAsOpen}
+use Rattle.trace_link.specs.Calm.{AreAsOpen}
 use Rattle.trace_link.specs.Closing.{IsDying, aware}
 
 pub as-open-same : (t : EndId → End) → AreAsOpen t t

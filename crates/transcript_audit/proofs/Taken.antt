@@ -11,7 +11,7 @@ use Rattle.kernel_journal.proofs.Replays.{ended-replay}
 use Rattle.transcript_audit.specs.Audit.{AreRest, DiffersBehind, HasHalted, HasReadAll, IsAudited, IsBadRest, IsDifferent, IsFaultOf, IsHaltBehind, IsRejected, Bad, Different, fault_of_lines, halt_of_lines, halt_of_replay}
 use Rattle.transcript_audit.specs.declared.halt.Halt.{Halt}
 use Rattle.transcript_audit.specs.declared.halt.Halt.TheVariants as halt
-use Rattle.transcript_law.proofs.Lawful.{replay-is-lawful}
+use Rattle.kernel_journal.proofs.Lawful.{replay-is-lawful}
 use Rattle.transcript_reader.specs.Lines.{GivesNext, Unread, lines_left, lines_read, next_line, unread, with_all, with_first}
 use Rattle.transcript_reader.specs.Text.{AreLines}
 use Rattle.transcript_reader.specs.declared.fault.LineFault.{LineFault}

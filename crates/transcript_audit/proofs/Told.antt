@@ -13,8 +13,8 @@ use Rattle.kernel_entries.specs.declared.entry.Placed.{Placed}
 use Rattle.kernel_world.specs.Run.{AreAllowed, IsAllowed, IsRecord}
 use Rattle.kernel_world.specs.World.{World, Event, Calls, Takes, asked_or_took, first_or, happens, nothing_sent, noted, noted_as, start}
 use Rattle.transcript_audit.specs.Audit.{IsAudited, IsRunTranscript}
-use Rattle.transcript_law.proofs.Lawful.{replay-is-lawful}
-use Rattle.transcript_law.proofs.Within.{run-within}
+use Rattle.kernel_journal.proofs.Lawful.{replay-is-lawful}
+use Rattle.kernel_journal.proofs.Within.{run-within}
 use Rattle.transcript_lines.specs.Transcript.{entry_lines, header_lines, last_text, line, note_text, transcript_lines}
 use Rattle.transcript_lines.specs.TranscriptText.{IsTranscript}
 use Rattle.transcript_lines.specs.declared.last.Last.{Last}

@@ -18,7 +18,7 @@ use Rattle.transcript_audit.specs.declared.fault.AuditFault.{AuditFault}
 use Rattle.transcript_audit.specs.declared.fault.AuditFault.TheVariants.{NoTranscript, NoMemory}
 use Rattle.transcript_audit.specs.declared.halt.Halt.{Halt}
 use Rattle.transcript_audit.specs.declared.halt.Halt.TheVariants as halt
-use Rattle.transcript_law.specs.Law.{IsLawfulReplay}
+use Rattle.kernel_journal.specs.Law.{IsLawfulReplay}
 use Rattle.transcript_reader.specs.Lines.{Unread, lines_left, lines_read, next_line, with_all}
 use Rattle.transcript_reader.specs.Text.{AreLines, IsBadLine}
 use Rattle.transcript_reader.specs.declared.fault.LineFault.{LineFault}

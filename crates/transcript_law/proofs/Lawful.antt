@@ -1,7 +1,7 @@
 -- Replays are lawful.
 use Rattle.std.proofs.Common.{List}
 use Rattle.transcript_lines.specs.declared.last.Last.{Last}
-use Rattle.theorem.proofs.Record.{record-is-lawful}
+use Rattle.trace_law.proofs.Record.{record-is-lawful}
 use Rattle.trace_law.proofs.Run.{record_is_bare}
 use Rattle.transcript_law.specs.Law.{IsLawfulReplay}
 use Rattle.transcript_reading.specs.declared.line.LineKind.{LineKind}

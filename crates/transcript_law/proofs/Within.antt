@@ -18,8 +18,8 @@ use Rattle.service_step.specs.Ends.{owner}
 use Rattle.service_step.specs.Run.{IsRunFrom, Wired, nothing_wired, start_state, state_after, wired, wires_one}
 use Rattle.service_step.specs.State.{State, counts}
 use Rattle.service_step.specs.Steps.{IsServiceStep, after_cancel}
-use Rattle.theorem.proofs.Run.{goes-event}
-use Rattle.theorem.proofs.Start.{starts-well}
+use Rattle.trace_law.proofs.TheoremRun.{goes-event}
+use Rattle.trace_law.proofs.Start.{starts-well}
 use Rattle.theorem_call_send.proofs.Version.{run-version}
 use Rattle.theorem_meaning.specs.Invariant.{Invariant}
 use Rattle.transcript_replay.specs.Replay.{AreWithin}

@@ -1,7 +1,7 @@
 -- What is claimed of a transcript that is replayed.
 use Rattle.std.specs.Prelude.{List}
 use Rattle.transcript_lines.specs.declared.last.Last.{Last}
-use Rattle.theorem.specs.Record.{IsLawfulRecord}
+use Rattle.trace_law.specs.Record.{IsLawfulRecord}
 use Rattle.trace_law.specs.Law.{IsBareRecord}
 use Rattle.transcript_reading.specs.declared.line.LineKind.{LineKind}
 use Rattle.transcript_replay.specs.Replay.{IsReplay}

@@ -1,10 +1,10 @@
-use Rattle.kernel_worker.proofs.Progress.{all-both, go-learned, ran-learned, round-less, some-each, some-learned, some-may, some-worked, unspoiled-learned}
+use Rattle.kernel_worker.proofs.Progress.{all-both, go-learned, ran-learned, round-less, some-each, some-few, some-learned, some-may, some-worked, unspoiled-learned}
 use Rattle.kernel_worker.specs.Rounds.{IsNumberOf}
 use Rattle.kernel_worker.proofs.serial.run_in_turns.Goals as goal
 
 pub turn_on-requires : goal.turn_on-requires
 turn_on-requires g c =
-    record { nodes = some-each (record { step = g.P.Program.step; state = g.P.Program.state; last = g.P.Program.last; version = g.P.Program.version }) g.W.Watch.HasSeen c.args.nodes.now c.requires.nodes }
+    record { nodes = some-each (record { step = g.P.Program.step; state = g.P.Program.state; last = g.P.Program.last; version = g.P.Program.version }) g.W.Watch.HasSeen c.args.nodes.now c.requires.nodes; few = some-few (record { step = g.P.Program.step; state = g.P.Program.state; last = g.P.Program.last; version = g.P.Program.version }) g.W.Watch.HasSeen c.args.nodes.now c.requires.nodes }
 
 pub rounds-init : goal.rounds-init
 rounds-init g c =
@@ -28,7 +28,8 @@ returns-in-Some-clause-run g c =
 
 pub turn_on-requires-in-rounds : goal.turn_on-requires-in-rounds
 turn_on-requires-in-rounds g c =
-    record { nodes = some-each (record { step = g.P.Program.step; state = g.P.Program.state; last = g.P.Program.last; version = g.P.Program.version }) g.W.Watch.HasSeen c.end_of.new.nodes (some-learned (record { step = g.P.Program.step; state = g.P.Program.state; last = g.P.Program.last; version = g.P.Program.version }) g.W.Watch.HasSeen g.W.Watch.made (IsNumberOf c.rounds.nodes) c.rounds.nodes c.end_of.new.nodes c.rounds.invariant.some c.end_of.ensures.learned) }
+    let some = some-learned (record { step = g.P.Program.step; state = g.P.Program.state; last = g.P.Program.last; version = g.P.Program.version }) g.W.Watch.HasSeen g.W.Watch.made (IsNumberOf c.rounds.nodes) c.rounds.nodes c.end_of.new.nodes c.rounds.invariant.some c.end_of.ensures.learned in
+    record { nodes = some-each (record { step = g.P.Program.step; state = g.P.Program.state; last = g.P.Program.last; version = g.P.Program.version }) g.W.Watch.HasSeen c.end_of.new.nodes some; few = some-few (record { step = g.P.Program.step; state = g.P.Program.state; last = g.P.Program.last; version = g.P.Program.version }) g.W.Watch.HasSeen c.end_of.new.nodes some }
 
 pub returns-in_err-turn_on-2-clause-goes : goal.returns-in_err-turn_on-2-clause-goes
 returns-in_err-turn_on-2-clause-goes g c =

@@ -4,7 +4,7 @@ use Rattle.journal_text.specs.Journal.{IsAfterLast}
 use Rattle.kernel_core.specs.State.{state_of}
 use Rattle.kernel_entries.specs.declared.entry.Happened.TheVariants.{Took}
 use Rattle.kernel_step.specs.Kernel.{take_step}
-use Rattle.local_runs.specs.Local.{TakesPacket}
+use Rattle.program_runs.specs.Local.{TakesPacket}
 use Rattle.kernel_turns.proofs.Happening.{IsEffectOf, effect_of, happens-of}
 use Rattle.kernel_turns.proofs.base.Base.take.Goals as goal
 

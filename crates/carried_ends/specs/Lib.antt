@@ -1,0 +1,3 @@
+pub use Rattle.lost_ends.specs.Acted
+pub use Rattle.lost_ends.specs.Acting
+pub use Rattle.lost_ends.specs.Claimed

@@ -1,0 +1,4 @@
+pub use Rattle.theorem_take_silent.specs.Change
+pub use Rattle.theorem_take_silent.specs.Events
+pub use Rattle.theorem_take_silent.specs.Named
+pub use Rattle.theorem_take_silent.specs.Sums

@@ -1,0 +1,1 @@
+pub use Rattle.trace_ending.specs.Calm
