@@ -27,7 +27,7 @@ module _ {P W : Type 0} where
   abbrev pub IsStopped : Node P W → Type 0
   IsStopped n = (n.base.kernel.stamp ≡ greatest_stamp) ⊎ (n.base.used ≡ n.base.orders.limit)
 
-  -- a node made one turn or more: less of its work is left, or the first of them could do nothing
+  -- a node made turns, or was left out as idle: less of its work is left, or a first turn could do nothing
   pub record Works (old new : Node P W) : Type 0 where
     pub less : weight new.base ≤ weight old.base
     pub still : weight new.base ≡ weight old.base → StandsStill old ⊎ IsStopped old
