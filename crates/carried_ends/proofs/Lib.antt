@@ -6,4 +6,5 @@ pub mod ArrivedAlong
 pub mod UnderWayRun
 pub mod UnderWayCarried
 pub mod Whole
+-- of crates further down, for those above
 pub use Rattle.lost_ends.proofs.Given

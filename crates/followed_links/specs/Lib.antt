@@ -1,3 +1,4 @@
+-- of crates further down, for those above
 pub use Rattle.run_process_steps.specs.Acted
 pub use Rattle.run_process_steps.specs.Acting
 pub use Rattle.run_process_steps.specs.Asking

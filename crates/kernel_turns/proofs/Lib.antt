@@ -21,6 +21,7 @@ pub mod Alike
 mod Sums
 pub mod Left
 mod Rows
+-- of crates further down, for those above
 pub use Rattle.program_runs.proofs.Kernels
 pub use Rattle.program_runs.proofs.Record
 pub use Rattle.program_runs.proofs.Together

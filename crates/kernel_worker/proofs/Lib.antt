@@ -8,6 +8,7 @@ pub mod Leaving
 pub mod Idle
 pub mod Stopping
 pub mod Crossing
+-- of crates further down, for those above
 pub use Rattle.kernel_turns.proofs.Together
 pub use Rattle.node_runs.proofs.Fitting
 pub use Rattle.node_runs.proofs.Sums

@@ -1,6 +1,7 @@
 pub mod Awake
 pub mod Rounds
 pub mod Ends
+-- of crates further down, for those above
 pub use Rattle.kernel_turns.specs.Letters
 pub use Rattle.kernel_turns.specs.Local
 pub use Rattle.kernel_turns.specs.Nodes

@@ -7,6 +7,7 @@ pub mod Sides
 pub mod ServiceSteps
 pub mod CallSteps
 pub mod Along
+-- of crates further down, for those above
 pub use Rattle.followed_links.proofs.AtEnd
 pub use Rattle.followed_links.proofs.Calling
 pub use Rattle.followed_links.proofs.Claims

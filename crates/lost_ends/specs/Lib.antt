@@ -1,4 +1,5 @@
 pub mod Stopped
+-- of crates further down, for those above
 pub use Rattle.followed_links.specs.Acted
 pub use Rattle.followed_links.specs.Acting
 pub use Rattle.followed_links.specs.AtEnd

@@ -12,4 +12,5 @@ pub mod AtEnd
 pub mod ToldAt
 pub mod Away
 pub mod Growing
+-- of crates further down, for those above
 pub use Rattle.process_ends.proofs.Numbering

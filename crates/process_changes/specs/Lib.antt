@@ -3,6 +3,7 @@ pub mod Changes
 pub mod Asking
 pub mod Telling
 pub mod AtEnd
+-- of crates further down, for those above
 pub use Rattle.process_run.specs.Ends
 pub use Rattle.process_run.specs.Reports
 pub use Rattle.process_run.specs.Runs

@@ -21,4 +21,5 @@ pub mod Calls
 pub mod Runs
 pub mod Starts
 pub mod Conditions
+-- of crates further down, for those above
 pub use Rattle.process_run.proofs.Modules

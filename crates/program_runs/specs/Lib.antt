@@ -1,4 +1,5 @@
 pub mod Replay
+-- of crates further down, for those above
 pub use Rattle.told_answers.specs.Law
 pub use Rattle.told_answers.specs.Local
 pub use Rattle.told_answers.specs.Record

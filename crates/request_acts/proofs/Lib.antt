@@ -11,5 +11,6 @@ pub mod Given
 pub mod Own
 pub mod Worked
 pub mod Claims
+-- of crates further down, for those above
 pub use Rattle.process_sound.proofs.Every
 pub use Rattle.process_sound.proofs.Runs

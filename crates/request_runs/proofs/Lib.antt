@@ -4,6 +4,7 @@ pub mod Ways
 pub mod Changing
 pub mod Told
 pub mod Followed
+-- of crates further down, for those above
 pub use Rattle.process_changes.proofs.Asking
 pub use Rattle.process_changes.proofs.AtEnd
 pub use Rattle.process_changes.proofs.Away

@@ -4,6 +4,7 @@ pub mod Ways
 pub mod Changing
 pub mod Told
 pub mod Followed
+-- of crates further down, for those above
 pub use Rattle.language_links.specs.Acting
 pub use Rattle.language_links.specs.Claims
 pub use Rattle.language_links.specs.Replay

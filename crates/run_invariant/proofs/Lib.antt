@@ -1,3 +1,4 @@
+-- of crates further down, for those above
 pub use Rattle.entry_steps.proofs.Entries
 pub use Rattle.request_acts.proofs.Callers
 pub use Rattle.request_acts.proofs.Claims

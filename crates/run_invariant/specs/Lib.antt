@@ -2,6 +2,7 @@ pub mod Owners
 pub mod Invariant
 pub mod Hearing
 pub mod Steps
+-- of crates further down, for those above
 pub use Rattle.entry_steps.specs.Entries
 pub use Rattle.entry_steps.specs.Law
 pub use Rattle.entry_steps.specs.Record

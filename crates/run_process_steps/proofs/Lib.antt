@@ -5,6 +5,7 @@ pub mod Telling
 pub mod Afterwards
 pub mod Stepping
 pub mod ProcessSteps
+-- of crates further down, for those above
 pub use Rattle.run_invariant.proofs.AtEnd
 pub use Rattle.run_invariant.proofs.Away
 pub use Rattle.run_invariant.proofs.Callers

@@ -1,3 +1,4 @@
+-- of crates further down, for those above
 pub use Rattle.process_run.specs.Ends
 pub use Rattle.process_run.specs.Reports
 pub use Rattle.process_run.specs.Runs

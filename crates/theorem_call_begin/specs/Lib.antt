@@ -1,3 +1,4 @@
+-- of crates further down, for those above
 pub use Rattle.theorem_take_silent.specs.Change
 pub use Rattle.theorem_take_silent.specs.Events
 pub use Rattle.theorem_take_silent.specs.Named

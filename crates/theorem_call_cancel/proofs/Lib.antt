@@ -4,6 +4,7 @@ pub mod Withdrawing
 pub mod WithdrawnLinks
 pub mod WithdrawnClauses
 pub mod ReceiveCancels
+-- of crates further down, for those above
 pub use Rattle.theorem_call_send.proofs.Calm
 pub use Rattle.theorem_call_send.proofs.Refused
 pub use Rattle.theorem_call_send.proofs.Reports

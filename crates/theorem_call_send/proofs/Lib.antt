@@ -8,6 +8,7 @@ pub mod RegroupedLinks
 pub mod Begun
 pub mod Granted
 pub mod Sends
+-- of crates further down, for those above
 pub use Rattle.theorem_call_begin.proofs.Answered
 pub use Rattle.theorem_call_begin.proofs.OneView
 pub use Rattle.theorem_call_begin.proofs.Receives

@@ -4,6 +4,7 @@ pub mod Waits
 pub mod Rested
 pub mod Given
 pub mod Reports
+-- of crates further down, for those above
 pub use Rattle.theorem_effects.proofs.Allowed
 pub use Rattle.theorem_effects.proofs.Aside
 pub use Rattle.theorem_effects.proofs.Ends

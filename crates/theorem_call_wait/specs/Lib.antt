@@ -1,3 +1,4 @@
+-- of crates further down, for those above
 pub use Rattle.theorem_effects.specs.Change
 pub use Rattle.theorem_effects.specs.Closing
 pub use Rattle.theorem_effects.specs.Events

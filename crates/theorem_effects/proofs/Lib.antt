@@ -14,6 +14,7 @@ pub mod NamedAfter
 pub mod Clear
 pub mod ClearCalls
 pub mod Passed
+-- of crates further down, for those above
 pub use Rattle.kernel_effects.proofs.Uses
 pub use Rattle.kernel_outcomes.proofs.Events
 pub use Rattle.kernel_outcomes.proofs.Sound

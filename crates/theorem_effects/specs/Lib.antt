@@ -4,6 +4,7 @@ pub mod Sums
 pub mod Under
 pub mod Aside
 pub mod Named
+-- of crates further down, for those above
 pub use Rattle.kernel_effects.specs.Actions
 pub use Rattle.kernel_effects.specs.Calls
 pub use Rattle.kernel_effects.specs.Effect

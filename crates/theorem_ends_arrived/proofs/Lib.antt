@@ -8,6 +8,7 @@ pub mod Closes
 pub mod Tells
 pub mod Owned
 pub mod Comes
+-- of crates further down, for those above
 pub use Rattle.theorem_take_gone.proofs.Dropped
 pub use Rattle.theorem_take_gone.proofs.Freed
 pub use Rattle.theorem_take_gone.proofs.Gone

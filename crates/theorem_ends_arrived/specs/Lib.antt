@@ -1,2 +1,3 @@
 pub mod Arrived
+-- of crates further down, for those above
 pub use Rattle.theorem_take_gone.specs.Swapped

@@ -7,6 +7,7 @@ pub mod Turned
 pub mod Freed
 pub mod Completed
 pub mod Takings
+-- of crates further down, for those above
 pub use Rattle.theorem_take_silent.proofs.Alike
 pub use Rattle.theorem_take_silent.proofs.Allowed
 pub use Rattle.theorem_take_silent.proofs.Aside

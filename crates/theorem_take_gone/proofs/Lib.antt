@@ -4,6 +4,7 @@ pub mod NoticedLinks
 pub mod Notices
 pub mod Told
 pub mod Gone
+-- of crates further down, for those above
 pub use Rattle.kernel_effects.proofs.Folds
 pub use Rattle.kernel_effects.proofs.Uses
 pub use Rattle.theorem_call_wait.proofs.Allowed

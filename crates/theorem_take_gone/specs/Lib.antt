@@ -1,3 +1,4 @@
+-- of crates further down, for those above
 pub use Rattle.kernel_effects.specs.Actions
 pub use Rattle.kernel_effects.specs.Effect
 pub use Rattle.theorem_call_wait.specs.Change

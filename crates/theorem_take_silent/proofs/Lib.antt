@@ -8,6 +8,7 @@ pub mod Places
 pub mod Learning
 pub mod Hearing
 pub mod Sound
+-- of crates further down, for those above
 pub use Rattle.theorem_effects.proofs.Addressees
 pub use Rattle.theorem_effects.proofs.Allowed
 pub use Rattle.theorem_effects.proofs.Aside

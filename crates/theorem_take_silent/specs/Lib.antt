@@ -1,6 +1,7 @@
 pub mod Quiet
 pub mod Silent
 pub mod Learning
+-- of crates further down, for those above
 pub use Rattle.theorem_effects.specs.Aside
 pub use Rattle.theorem_effects.specs.Calls
 pub use Rattle.theorem_effects.specs.Change

@@ -9,6 +9,7 @@ pub mod Wanting
 pub mod Cleared
 pub mod Matching
 pub mod Matched
+-- of crates further down, for those above
 pub use Rattle.theorem_take_silent.proofs.Alike
 pub use Rattle.theorem_take_silent.proofs.Allowed
 pub use Rattle.theorem_take_silent.proofs.Clauses

@@ -1,4 +1,5 @@
 pub mod Anew
+-- of crates further down, for those above
 pub use Rattle.theorem_take_silent.specs.Change
 pub use Rattle.theorem_take_silent.specs.Events
 pub use Rattle.theorem_take_silent.specs.Learning

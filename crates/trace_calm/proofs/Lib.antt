@@ -7,6 +7,7 @@ pub mod Known
 pub mod Marked
 pub mod Erased
 pub mod Gone
+-- of crates further down, for those above
 pub use Rattle.theorem_take_silent.proofs.Alike
 pub use Rattle.theorem_take_silent.proofs.Places
 pub use Rattle.trace_events.proofs.Aside

@@ -1,4 +1,5 @@
 pub mod Dropped
+-- of crates further down, for those above
 pub use Rattle.theorem_take_back_unmet.proofs.Unmet
 pub use Rattle.trace_ending.proofs.Calls as TraceEndingCalls
 pub use Rattle.trace_ending.proofs.Erased

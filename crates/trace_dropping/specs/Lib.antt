@@ -1,1 +1,2 @@
+-- of crates further down, for those above
 pub use Rattle.trace_ending.specs.Calm

@@ -1,5 +1,6 @@
 pub mod Ending
 pub mod Calls
+-- of crates further down, for those above
 pub use Rattle.trace_calm.proofs.Calls as TraceCalmCalls
 pub use Rattle.trace_calm.proofs.Erased
 pub use Rattle.trace_calm.proofs.Forget

@@ -1,5 +1,6 @@
 pub mod Hearing
 pub mod Marks
+-- of crates further down, for those above
 pub use Rattle.trace_calm.proofs.Alike
 pub use Rattle.trace_calm.proofs.Calls
 pub use Rattle.trace_calm.proofs.Clauses

@@ -6,6 +6,7 @@ pub mod Here
 pub mod Taken
 pub mod Passed
 pub mod First
+-- of crates further down, for those above
 pub use Rattle.theorem_call_send.proofs.Granted
 pub use Rattle.theorem_call_send.proofs.Sends
 pub use Rattle.theorem_call_send.proofs.Version

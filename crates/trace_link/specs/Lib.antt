@@ -1,2 +1,3 @@
 pub mod Closing
+-- of crates further down, for those above
 pub use Rattle.trace_calm.specs.Calm
