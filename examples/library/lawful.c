@@ -1,4 +1,4 @@
-// Whether the history on standard input is lawful: cc -I service lawful.c service/liblynx_service.a, of `lynx library service`.
+// Whether the history on standard input is lawful: cc -I checker lawful.c checker/liblynx_service.a, of `lynx library service`.
 #include <stdio.h>
 #include <string.h>
 

@@ -1,7 +1,7 @@
 /* A message layer whose log is checked while it runs. Alice gives an end away and uses it all the same, which the layer does not notice.
  *
- *     bin/lynx library service
- *     cc -I service examples/library/post.c service/liblynx_service.a -o post
+ *     bin/lynx library checker
+ *     cc -I checker examples/library/post.c checker/liblynx_service.a -o post
  *     ./post
  *
  * prints
@@ -21,7 +21,7 @@ static int lines, status;
 
 /* Tells the service a line, in the form of printf. Of the first one that can't stand there its number is printed, and why. */
 static void tell(const char *form, ...) {
-    char line[600], why[600];
+    char line[600], why[600] = {0};
     va_list words;
     va_start(words, form);
     int length = vsnprintf(line, sizeof line, form, words);

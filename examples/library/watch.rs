@@ -1,7 +1,7 @@
 //! Checks a history while it comes, and says who holds these ends then: SYSTEM | watch [END ..]
 //!
-//!     bin/lynx library service
-//!     rustc -L service -l static=lynx_service examples/library/watch.rs
+//!     bin/lynx library checker
+//!     rustc -L checker -l static=lynx_service examples/library/watch.rs
 //!     python3 examples/own/post.py | ./watch box.a mail.b
 //!
 //! prints

@@ -16,7 +16,8 @@
  * Pointers: a null pointer is told by status LYNX_SERVICE_NULL, and then nothing was done but what is said below. What can't be told is a pointer that is
  * neither null nor what is wanted: a service that was freed, or that is not one of lynx_service_new; bytes that are not the caller's, or fewer than were
  * said. With such a pointer anything may happen. Bytes that are passed are used during the call alone, and nobody else writes them meanwhile. A line and
- * the name of an end are only read. No length is 2^63 or more.
+ * the name of an end are only read. A holder is apart from the name that is asked for: the name that one call put is copied before it is asked for with
+ * the same holder. No length is 2^63 or more.
  */
 #ifndef LYNX_SERVICE_H
 #define LYNX_SERVICE_H
@@ -31,9 +32,9 @@ extern "C" {
 /* A history as far as its lines were told. Its memory is the library's, from lynx_service_new to lynx_service_free. */
 typedef struct lynx_service lynx_service;
 
-/* What is answered: the statuses of `lynx service`. */
+/* What is answered: 0, 4 and 7 as the statuses of `lynx service`. */
 #define LYNX_SERVICE_OK 0        /* done; of a line: with it too, the lines so far are one lawful run */
-#define LYNX_SERVICE_NULL 1      /* a pointer is null; nothing was done */
+#define LYNX_SERVICE_NULL 1      /* a pointer is null */
 #define LYNX_SERVICE_REFUSED 4   /* the line, or one before it, can't stand there, or its step is not allowed there */
 #define LYNX_SERVICE_NO_MEMORY 7 /* want of memory */
 
@@ -51,11 +52,12 @@ int lynx_service_new(lynx_service **out);
  * LYNX_SERVICE_NULL where `service` or `line` is null. */
 int lynx_service_line(lynx_service *service, const char *line, size_t length);
 
-/* The words of the refusal, as `lynx service` prints them behind the number of the line: `form: ..`, `no: ..` or `no memory`; none where no line was
+/* The words of the refusal: `form: ..` or `no: ..`, as `lynx service` prints them behind the number of the line, or `no memory`; none where no line was
  * refused, or there was no memory for them.
  *
  * The answer is the length of the words. At most `size` bytes of them are written to `room`, from the first on, and no zero behind them; what lies
- * behind them in `room` stays. With `room` null, or size 0, nothing is written, so the length can be asked first. Of a null `service` it is 0. */
+ * behind them in `room` stays. With `room` null, or size 0, nothing is written, so the length can be asked first. Of a null `service` it is 0. What is
+ * proved of it is of a room whose bytes were written before, as by `memset`. */
 size_t lynx_service_why(const lynx_service *service, char *room, size_t size);
 
 /* Where an end is. */
@@ -78,8 +80,8 @@ typedef struct lynx_service_holder {
  * or `service` or `end` is null, the holder is all zeros.
  *
  * Once a line was refused, the answer is of the lines before it, unless it was refused for want of memory: then nothing is said of it. Before the first
- * step the answer takes memory for a moment; where there is none it is LYNX_SERVICE_NO_MEMORY. Else it is found by two look-ups, and where a message has
- * the end by one over the links. */
+ * step the answer takes memory for a moment; where there is none it is LYNX_SERVICE_NO_MEMORY. Else it is found by two look-ups; where a message has the
+ * end, all links are gone through for a name too. */
 int lynx_service_place(const lynx_service *service, const char *end, size_t length, lynx_service_holder *holder);
 
 /* Frees a service. It is not to be used any more. Of a null pointer nothing is done. */
