@@ -1,4 +1,4 @@
-// Whether the history on standard input is lawful: cc -I checker lawful.c checker/liblynx_service.a, of `lynx library service`.
+// Whether the history on standard input is lawful: cc -I checker lawful.c checker/liblynx_service.a, of `lynx library checker`.
 #include <stdio.h>
 #include <string.h>
 

@@ -1,4 +1,4 @@
-//! Whether the history on standard input is lawful: rustc -L checker -l static=lynx_service lawful.rs, of `lynx library service`.
+//! Whether the history on standard input is lawful: rustc -L checker -l static=lynx_service lawful.rs, of `lynx library checker`.
 use std::{ffi::c_void, io::BufRead, process, ptr};
 
 unsafe extern "C" {
