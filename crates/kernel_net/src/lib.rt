@@ -8,7 +8,7 @@
 //! is, with its number, or none and nothing changed, exactly where none is known; which kernel that is, and to get its letter, are calls of
 //! their own. After a meeting of two ports, or of one with itself, what the one got from the other, followed by what is in the ring, is what
 //! the other put; each place without a letter is known to be free; and the answer is how many letters are in the rings. So what was got is a
-//! prefix of what was put. A meeting does not allocate. Workers will use it; no command does yet.
+//! prefix of what was put. A meeting does not allocate. The command `run` uses it.
 //! By clauses of `Net::make`, `Port::put`, `Port::get`, `Port::first`, `Port::get_from`, `Port::meet_self` and `meet`; `MayBePut` in
 //! `specs/Letters.antt`; `HasPut`, `HasGot`, `HasFound`, `GetsOne`, `HasLooked`, `AreAllThere`, `IsNet` in `specs/Ports.antt`.
 #![tactic(auto)]

@@ -9,7 +9,7 @@
 //! (`node-spoiled`). A node at its start is one (`node-started`). Each turn keeps its place in the net, what it is to do and what its watch was
 //! made with (`Goes`), which chains over many turns (`goes-both`). What is left to do is a number (`weight`), which falls with each turn that
 //! does something; after one that did nothing and began no snapshot no letter was known, no program could go on, and for no letter that is
-//! left is a place known (`idle-stands`). Workers will use it; no command does yet.
+//! left is a place known (`idle-stands`). The command `run` uses it.
 //! By clauses of `Node::start`, `Node::turn`, the readers and `meet_nodes`; `IsNode` in `specs/Nodes.antt`, `IsTurn` in `specs/Turns.antt`,
 //! `SameRun` in `specs/Amid.antt`, `Goes` and `IsAtRest` in `specs/Goes.antt`, `weight` in `specs/Left.antt`; the laws in
 //! `proofs/Turned.antt`, `Starting.antt`, `Goes.antt` and `Left.antt`.

@@ -6,7 +6,7 @@
 //! outbox; and it is a lawful run of the link service. It answers quiet exactly where no packet and no marker is in the net or an outbox, no answer
 //! stands that its program was not given, and each program has ended or waits; and spent only where it is not, with the least node that used its
 //! turns. What runs beside the workers follows itself, and where it stopped the run it is stopped. Not promised: which order comes, that threads
-//! run at the same time, and in how many rounds a run is done. The run-time will use it; no command does yet.
+//! run at the same time, and in how many rounds a run is done. The command `run` uses it.
 //! By clauses of `run_serial`, `run_nodes`, `run_nodes_with`, `work`; `Ends`, `IsQuiet`, `RanTogether` in `specs/Ends.antt`, `GoesOn` in
 //! `specs/Rounds.antt`.
 #![tactic(auto)]

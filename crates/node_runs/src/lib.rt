@@ -5,7 +5,7 @@
 //! the packets between them, in the net or an outbox, is what this one sent to it. So their journals in the order of a merge are the
 //! record of one run of the world, which leaves each kernel as its node has it and these packets under way, and it is a lawful run of the
 //! link service. No kernel's stamp is greater than the number of all events, so it is far below the greatest. Nodes at their start are
-//! nodes of their setting. Workers will use it; no command does yet.
+//! nodes of their setting. The command `run` uses it.
 //! By lemmas `nodes-fit`, `nodes-are_one_run`, `nodes-are_lawful` in `proofs/Fitting.antt`, `nodes-early` in `proofs/Stamps.antt`,
 //! `nodes-started` in `proofs/Beginning.antt`; `AreNodes`, `HaveMet`, `left_at` in `specs/Net.antt`.
 #![tactic(auto)]
