@@ -20,6 +20,7 @@ pub enum Number {
 }
 
 /// Appends a decimal number without leading zeros.
+#[inline(always)]
 pub fn push_number(out: &mut Vec<u8>, number: u64) -> Result<(), NoMemory>
     ensures ok { OnOk result (out.new.items ≡ out.old.items ++ number_text number) }
     ensures err { OnErr result (out.new.items ≡ out.old.items) }
@@ -27,6 +28,15 @@ pub fn push_number(out: &mut Vec<u8>, number: u64) -> Result<(), NoMemory>
     if number < 10 {
         return push_digit(out, number as u8);
     }
+    push_digits(out, number)
+}
+
+// A number of two digits or more.
+fn push_digits(out: &mut Vec<u8>, number: u64) -> Result<(), NoMemory>
+    requires { 10 ≤ number }
+    ensures ok { OnOk result (out.new.items ≡ out.old.items ++ number_text number) }
+    ensures err { OnErr result (out.new.items ≡ out.old.items) }
+{
     if number < 100 {
         return push_two_digits(out, number as u8);
     }
@@ -39,6 +49,7 @@ pub fn push_number(out: &mut Vec<u8>, number: u64) -> Result<(), NoMemory>
 }
 
 // Most numbers of a line have one digit, and few have more than five: no buffer is made for them.
+#[inline(always)]
 #[tactic(auto, using(std::proofs::lemmas::Fmt::decimal_digit))]
 fn push_digit(out: &mut Vec<u8>, digit: u8) -> Result<(), NoMemory>
     requires { digit < 10 }

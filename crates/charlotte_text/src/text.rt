@@ -1,4 +1,4 @@
-ghost use Rattle.std.specs.Prelude.{◌≡◌, ◌<◌, ◌++◌, ℕ, List, OnOk, OnErr, IfOk, IfSome, Ok, if◌then◌else◌, true, nat_le, length, take};
+ghost use Rattle.std.specs.Prelude.{◌≡◌, ◌+◌, ◌<◌, ◌≤◌, ◌++◌, ℕ, List, OnOk, OnErr, IfOk, IfSome, Ok, if◌then◌else◌, true, nat_le, length, vec_capacity, vec_len};
 ghost use Rattle.charlotte_text.specs.Spelling.{is_plain, hex_digit, byte_text, bytes_text, AreBytes};
 ghost use Rattle.charlotte_text.specs.Reading.{Gives, hex_value, escaped, byte_at, spelled, bytes_of};
 ghost use Rattle.std.specs.List.{flat_map, list_all};
@@ -18,15 +18,11 @@ pub fn push_bytes(out: &mut Vec<u8>, bytes: &[u8]) -> Result<(), NoMemory>
         out.push(b'-')?;
         return Ok(());
     }
-    if all_plain(bytes) {
+    // Where the first is coded the others need not be looked at.
+    if is_plain(bytes[0]) && all_plain(bytes) {
         return push_plain(out, bytes);
     }
-    let start = out.len();
-    let pushed = push_each(out, bytes);
-    if pushed.is_err() {
-        out.truncate(start);
-    }
-    pushed
+    push_coded(out, bytes)
 }
 
 // Bytes that all stand for themselves are appended at once.
@@ -39,26 +35,35 @@ fn push_plain(out: &mut Vec<u8>, bytes: &[u8]) -> Result<(), NoMemory>
     Ok(())
 }
 
-fn push_each(out: &mut Vec<u8>, bytes: &[u8]) -> Result<(), NoMemory>
+// There is room for all bytes before the first is appended.
+fn push_coded(out: &mut Vec<u8>, bytes: &[u8]) -> Result<(), NoMemory>
     ensures ok { OnOk result (out.new.items ≡ out.old.items ++ flat_map byte_text bytes.now) }
-    ensures err { OnErr result (take (length out.old.items) out.new.items ≡ out.old.items) }
+    ensures err { OnErr result (out.new.items ≡ out.old.items) }
 {
+    let Some(room) = bytes.len().checked_mul(3) else {
+        return Err(NoMemory);
+    };
+    out.reserve(room)?;
     for byte in bytes {
-        push_byte(out, *byte)?;
+        push_byte(out, *byte);
     }
     Ok(())
 }
 
-fn push_byte(out: &mut Vec<u8>, byte: u8) -> Result<(), NoMemory>
-    ensures ok { OnOk result (out.new.items ≡ out.old.items ++ byte_text byte) }
-    ensures err { OnErr result (out.new.items ≡ out.old.items) }
+#[inline(always)]
+fn push_byte(out: &mut Vec<u8>, byte: u8)
+    requires { vec_len out.old + 3 ≤ vec_capacity out.old }
+    ensures items { out.new.items ≡ out.old.items ++ byte_text byte }
+    ensures len { vec_len out.new ≤ vec_len out.old + 3 }
+    ensures capacity { vec_capacity out.new ≡ vec_capacity out.old }
 {
     if is_plain(byte) {
-        out.push(byte)?;
+        out.push_reserved(byte);
     } else {
-        out.extend_from_slice(&[b'%', hex_digit(byte / 16), hex_digit(byte % 16)])?;
+        out.push_reserved(b'%');
+        out.push_reserved(hex_digit(byte / 16));
+        out.push_reserved(hex_digit(byte % 16));
     }
-    Ok(())
 }
 
 /// Whether the byte stands for itself in a text, as letters, digits, `_` and `.` do.
@@ -66,6 +71,10 @@ fn push_byte(out: &mut Vec<u8>, byte: u8) -> Result<(), NoMemory>
 pub fn is_plain(byte: u8) -> bool
     ensures { result ≡ is_plain byte }
 {
+    // Most bytes that are coded are outside of this range, and so are told at once.
+    if byte < b'.' || b'z' < byte {
+        return false;
+    }
     matches!(byte, b'0'..=b'9' | b'A'..=b'Z' | b'a'..=b'z' | b'_' | b'.')
 }
 

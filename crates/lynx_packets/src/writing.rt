@@ -161,6 +161,15 @@ fn enc(kind: u8, number: u32, index: u8) -> Bytes
     message(&[7, kind, a, b, c, d, index])
 }
 
+/// A reply without values.
+#[tactic(auto, unfolding(crate::specs::Spelling::number_text))]
+fn bare_reply(number: u32, status: u8) -> Bytes
+    ensures { result ≡ 2 ∷ number_text number ++ status ∷ [] }
+{
+    let [a, b, c, d] = number.to_be_bytes();
+    message(&[2, a, b, c, d, status])
+}
+
 #[tactic(auto, unfolding(crate::specs::Spelling::spelling))]
 fn request(number: u32, signature: &[u8], values: &[RtValue]) -> Result<Bytes, TooLong>
     ensures ok { IfOk result (λ bytes. bytes ≡ spelling (Request number signature.now values.now)) }
@@ -176,6 +185,9 @@ fn reply(number: u32, status: u8, values: &[RtValue]) -> Result<Bytes, TooLong>
     ensures ok { IfOk result (λ bytes. bytes ≡ spelling (Reply number status values.now)) }
     ensures long { IsErr result ↔ (256 < length (spelling (Reply number status values.now))) }
 {
+    if values.is_empty() {
+        return Ok(bare_reply(number, status));
+    }
     let mut room = ArrayVec::new();
     put_reply(&mut room, number, status, values)?;
     Ok(message(room.as_slice()))

@@ -5,6 +5,7 @@ ghost use Rattle.lynx_descent.specs.Reading.{Reads, Parser, pure, then_parse, se
 ghost use Rattle.lynx_descent.specs.ReadingLists as spec;
 ghost use Rattle.lynx_lexer.specs.declared.sign.Sign.TheVariants as signs;
 
+use crate::spare::without_spare;
 use crate::reader::Reader;
 use lynx_descent::Refusal;
 use lynx_lexer::{Keyword, Sign};
@@ -43,7 +44,7 @@ pub fn listed<'t, 'a, T: Item<'a>>(
         reader.advance();
         all.push(T::read(reader, room)?)?;
     }
-    all.shrink_to_fit();
+    without_spare(&mut all);
     Ok(all)
 }
 
@@ -63,7 +64,7 @@ pub fn declared<'t, 'a, T: Item<'a>>(
         }
         all.push(T::read(reader, room)?)?;
     }
-    all.shrink_to_fit();
+    without_spare(&mut all);
     Ok(all)
 }
 

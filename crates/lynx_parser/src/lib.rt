@@ -15,5 +15,6 @@ mod read_list;
 mod read_module;
 mod read_statement;
 mod reader;
+mod spare;
 
 pub use parsing::{parse, parse_lexemes};

@@ -6,6 +6,7 @@ ghost use Rattle.lynx_tree.specs.Trees.{expr_tree, boxed_tree};
 ghost use Rattle.lynx_descent.specs.ReadingExpressions.{exprs_of, sum_of, term_of, named_of};
 ghost use Rattle.lynx_parser.specs.Making.{Makes};
 
+use crate::spare::without_spare;
 use lynx_descent::Refusal;
 use lynx_lexer::{IdentRef, Sign};
 use lynx_tree::{Expr, TermSign};
@@ -61,7 +62,7 @@ pub fn sum_of<'a>(
     ensures { Makes (sum_of (boxed_tree first.entry) (map (λ m. (m.0, expr_tree m.1)) rest.entry.items)) result }
 {
     if rest.len() > 1 {
-        rest.shrink_to_fit();
+        without_spare(&mut rest);
         let rest = Box::new(alloc, rest)?;
         return Ok(Expr::Sums { first, rest });
     }
@@ -86,7 +87,7 @@ pub fn term_of<'a>(
     ensures { Makes (term_of (boxed_tree first.entry) (map (λ m. (m.0, expr_tree m.1)) rest.entry.items)) result }
 {
     if rest.len() > 1 {
-        rest.shrink_to_fit();
+        without_spare(&mut rest);
         let rest = Box::new(alloc, rest)?;
         return Ok(Expr::Terms { first, rest });
     }

@@ -7,6 +7,7 @@ ghost use Rattle.lynx_descent.specs.ReadingExpressions.{inside};
 ghost use Rattle.lynx_tree.specs.Trees as trees;
 ghost use Rattle.lynx_tree.specs.Trees.{expr_tree, boxed_tree};
 
+use crate::spare::without_spare;
 use crate::make_expression::{
     and_of, bracket_of, minus_of, named_of, not_of, one, or_of, relation_of, sum_of, term_of,
 };
@@ -103,7 +104,7 @@ impl<'t, 'a> Reader<'t, 'a> {
             self.advance();
             members.push(self.conj(room)?)?;
         }
-        members.shrink_to_fit();
+        without_spare(&mut members);
         Ok(members)
     }
 
@@ -140,7 +141,7 @@ impl<'t, 'a> Reader<'t, 'a> {
             self.advance();
             members.push(self.rel(room)?)?;
         }
-        members.shrink_to_fit();
+        without_spare(&mut members);
         Ok(members)
     }
 

@@ -9,6 +9,7 @@ ghost use Rattle.lynx_lexer.specs.declared.keyword.Keyword.TheVariants as keywor
 ghost use Rattle.lynx_tree.specs.Trees as trees;
 ghost use Rattle.lynx_tree.specs.Trees.{boxed_tree, stmt_tree};
 
+use crate::spare::without_spare;
 use crate::make_statement::{
     accept_of, assign_of, attempt_of, choice_of, connect_of, repetition_of, reply_of,
 };
@@ -164,7 +165,7 @@ impl<'t, 'a> Reader<'t, 'a> {
             all.push(self.stmt(room)?)?;
             self.sign(Sign::Semicolon)?;
         }
-        all.shrink_to_fit();
+        without_spare(&mut all);
         Ok(all)
     }
 
@@ -282,7 +283,7 @@ impl<'t, 'a> Reader<'t, 'a> {
             }
             all.push(self.handler(room)?)?;
         }
-        all.shrink_to_fit();
+        without_spare(&mut all);
         Ok(all)
     }
 

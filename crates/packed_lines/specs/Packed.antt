@@ -82,7 +82,7 @@ is_unmarked b = not (b == 37)
 
 -- whether a line is packed: it is long, and has the mark
 unfoldable pub packs : List ℕ → Bool
-packs text = nat_le 96 (length text) && not (list_all is_unmarked text)
+packs text = nat_le 512 (length text) && not (list_all is_unmarked text)
 
 -- a line as it is kept
 unfoldable pub kept : List ℕ → List ℕ

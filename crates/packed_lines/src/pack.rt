@@ -13,7 +13,7 @@ use charlotte_text::digit_value;
 pub(crate) fn is_packed(line: &[u8]) -> bool
     ensures { result ≡ packs line.now }
 {
-    line.len() >= 96 && !all_unmarked(line)
+    line.len() >= 512 && !all_unmarked(line)
 }
 
 /// Whether no byte is the mark of a code. The loop has no early end, so that it is made of steps over many bytes.
