@@ -5,8 +5,8 @@ ghost use Rattle.lynx_descent.specs.Reading.{Reads, Parser, pure, then_parse, se
 ghost use Rattle.lynx_descent.specs.ReadingLists as spec;
 ghost use Rattle.lynx_lexer.specs.declared.sign.Sign.TheVariants as signs;
 
-use crate::spare::without_spare;
 use crate::reader::Reader;
+use crate::spare::without_spare;
 use lynx_descent::Refusal;
 use lynx_lexer::{Keyword, Sign};
 

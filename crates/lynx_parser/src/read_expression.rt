@@ -7,11 +7,11 @@ ghost use Rattle.lynx_descent.specs.ReadingExpressions.{inside};
 ghost use Rattle.lynx_tree.specs.Trees as trees;
 ghost use Rattle.lynx_tree.specs.Trees.{expr_tree, boxed_tree};
 
-use crate::spare::without_spare;
 use crate::make_expression::{
     and_of, bracket_of, minus_of, named_of, not_of, one, or_of, relation_of, sum_of, term_of,
 };
 use crate::reader::Reader;
+use crate::spare::without_spare;
 use lynx_descent::{Ahead, Refusal};
 use lynx_lexer::{Keyword, Sign};
 use lynx_tree::{Expr, TermSign};

@@ -9,11 +9,11 @@ ghost use Rattle.lynx_lexer.specs.declared.keyword.Keyword.TheVariants as keywor
 ghost use Rattle.lynx_tree.specs.Trees as trees;
 ghost use Rattle.lynx_tree.specs.Trees.{boxed_tree, stmt_tree};
 
-use crate::spare::without_spare;
 use crate::make_statement::{
     accept_of, assign_of, attempt_of, choice_of, connect_of, repetition_of, reply_of,
 };
 use crate::reader::Reader;
+use crate::spare::without_spare;
 use lynx_descent::{Ahead, Refusal};
 use lynx_lexer::{IdentRef, Keyword, Sign};
 use lynx_tree::{Expr, Handler, Stmt};
