@@ -1,6 +1,6 @@
 -- What a port has after one of its rings changed.
 use Rattle.std.proofs.Common.{◌≡◌, ℕ, zero, suc, ◌+◌, ◌<◌, ◌≤◌, List, [], ◌∷◌, ◌++◌, length, map, set, get_or, ap, ◌∙◌, sym, subst, refl, arith, append-nil}
-use Rattle.std.proofs.lemmas.List.{get_or_default, length-map}
+use Rattle.std.proofs.lemmas.List.{get_or_default, length-map, set-get_or}
 use Rattle.std.proofs.Math.Nat.{ne_of_lt}
 use mathlib.Core.List.{IsPrefix, map-map}
 use Rattle.kernel_net.specs.Letters.{MayBePut}
@@ -39,6 +39,30 @@ module _ (p : PortView) (to : ℕ) (old new : Outlet) (below : to < length p.out
         known = ([], append-nil (known_from p to));
         others = λ q other. (set-others (λ o. o.places) p.out to old new below is q 0 other, refl);
       }
+
+  -- no free place is known, and nothing changed
+  pub full-out : new ≡ old → new.places ≡ 0 → (with_out p to new ≡ p) × (places_to (with_out p to new) to ≡ 0)
+  full-out same none = (
+    ap {B = PortView} (λ (os : List Outlet). record { kernel = p.kernel; out = os; into = p.into }) (ap (set p.out to) (same ∙ is) ∙ set-get_or p.out to old),
+    set-at (λ o. o.places) p.out to old new below is 0 ∙ none,
+  )
+
+  pub free-out : 0 < new.places → 0 < places_to (with_out p to new) to
+  free-out some = subst (λ n. 0 < n) (sym (set-at (λ o. o.places) p.out to old new below is 0)) some
+
+-- the letters that a ring takes are those that it took before its port looked
+pub may-looked : (to : ℕ) (letter : Letter) (old mid : PortView) → HasLooked to old mid → MayBePut (put_to old to) letter → MayBePut (put_to mid to) letter
+may-looked to letter old mid looked may = subst (λ (ls : ℕ → List Letter). MayBePut (ls to) letter) (sym looked.put) may
+
+-- a port learned of its ring to a kernel, and then put a letter to it
+pub looked-put : (to : ℕ) (letter : Letter) (old mid new : PortView) → HasLooked to old mid → mid.into ≡ old.into → HasPut to letter mid new → HasPut to letter old new
+looked-put to letter old mid new looked into puts =
+    record {
+      put = puts.put ∙ ap (λ (ls : ℕ → List Letter). ls to ++ letter ∷ []) looked.put;
+      places = omega (arith, looked.places, puts.places);
+      others = λ q other. ((puts.others q other).0 ∙ ap (λ (ls : ℕ → List Letter). ls q) looked.put, (puts.others q other).1 ∙ (looked.others q other).0);
+      into = puts.into ∙ into;
+    }
 
 module _ (p : PortView) (from : ℕ) (old new : Inlet) (below : from < length p.into) (is : old ≡ get_or p.into from old) where
   pub place-into : new.ring ≡ old.ring → place_of (with_into p from new) ≡ place_of p

@@ -59,6 +59,12 @@ pub record Puts (letter : Letter) (old new : Outlet) : Type 0 where
   pub put : new.put ≡ old.put ++ letter ∷ []
   pub places : old.places ≤ new.places + 1
 
+-- more free places may be known than were, and else nothing changed
+pub record Frees (old new : Outlet) : Type 0 where
+  pub ring : new.ring ≡ old.ring
+  pub put : new.put ≡ old.put
+  pub places : old.places ≤ new.places
+
 -- a letter was got, the first of those that are there, and it is one that might be put
 pub record Gets (letter : Letter) (old new : Inlet) : Type 0 where
   pub ring : new.ring ≡ old.ring

@@ -1,4 +1,4 @@
-ghost use Rattle.std.specs.Prelude.{◌≡◌, ◌+◌, ◌<◌, ◌≤◌, ℕ, [], IfSome, IfNone, IsOk, IsSome, OnOk, IfErr, length, slice_index_or};
+ghost use Rattle.std.specs.Prelude.{◌≡◌, ◌+◌, ◌<◌, ◌≤◌, ℕ, [], IfSome, IfNone, IsOk, IsSome, IsTrue, IsFalse, OnOk, IfErr, length, slice_index_or};
 ghost use Rattle.kernel_net.specs.Letters.{MayBePut};
 ghost use Rattle.kernel_net.specs.Rings.{Inlet};
 ghost use Rattle.kernel_net.specs.Ports.{place_of, kernels_of, HasPut, HasFound, GetsOne, HasGot, HasLooked, LooksOneWay, IsJoined, AreOfOneNet, AreAllThere, FindsFirst, put_to, there_of, places_to, known_from};
@@ -46,9 +46,35 @@ impl Port {
         self.out.len() as u8
     }
 
+    /// Whether no free place of the ring to a kernel is known. Where none is, it first learns what that kernel got. One who asks before a
+    /// letter is put need not move it where it stays.
+    #[inline(always)]
+    pub fn is_full(&mut self, to: u8) -> bool
+        requires { to < kernels_of (place_of self.old) }
+        ensures place { place_of self.new ≡ place_of self.old }
+        ensures full { IsTrue result → (self.new ≡ self.old) × (places_to self.new to ≡ 0) }
+        ensures free { IsFalse result → 0 < places_to self.new to }
+        ensures looked { HasLooked to self.old self.new }
+        ensures into { self.new.into ≡ self.old.into }
+    {
+        self.out[usize::from(to)].is_full()
+    }
+
+    /// Puts a letter to a kernel, where a free place of the ring to it is known: a packet whose stamp is below the greatest `u64`, or the
+    /// first marker to that kernel.
+    #[inline(always)]
+    pub fn put_known(&mut self, to: u8, letter: Letter)
+        requires kernel { to < kernels_of (place_of self.old) }
+        requires place { 0 < places_to self.old to }
+        requires letter { MayBePut (put_to self.old to) letter }
+        ensures place { place_of self.new ≡ place_of self.old }
+        ensures put { HasPut to letter self.old self.new }
+    {
+        self.out[usize::from(to)].put_known(letter);
+    }
+
     /// Puts a letter to a kernel: a packet whose stamp is below the greatest `u64`, or the first marker to that kernel. The letter comes
     /// back exactly where no free place of the ring to it is known.
-    #[inline(always)]
     pub fn put(&mut self, to: u8, letter: Letter) -> Result<(), Letter>
         requires kernel { to < kernels_of (place_of self.old) }
         requires letter { MayBePut (put_to self.old to) letter }
@@ -57,7 +83,10 @@ impl Port {
         ensures full { IfErr result (λ back. (back ≡ letter) × (self.new ≡ self.old) × (places_to self.new to ≡ 0)) }
         ensures succeeds { 0 < places_to self.old to → IsOk result }
     {
-        self.out[usize::from(to)].put(letter)?;
+        if self.is_full(to) {
+            return Err(letter);
+        }
+        self.put_known(to, letter);
         Ok(())
     }
 
@@ -82,7 +111,7 @@ impl Port {
         ensures place { place_of self.new ≡ place_of self.old }
         ensures gets { GetsOne from result self.old self.new }
     {
-        self.into[usize::from(from)].get_known()
+        self.into[usize::from(from)].ring.pop_known()
     }
 
     /// Gets the first letter of the first kernel, by their numbers, of which one is known, with that kernel's number; `None` exactly

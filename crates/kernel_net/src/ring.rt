@@ -1,10 +1,10 @@
-ghost use Rattle.std.specs.Prelude.{◌≡◌, ◌↔◌, ◌<◌, ◌≤◌, [], IfOk, OnOk, IfErr, IsTrue, length};
+ghost use Rattle.std.specs.Prelude.{◌≡◌, ◌↔◌, ◌<◌, ◌≤◌, [], IfOk, IsTrue, IsFalse, length};
 ghost use Rattle.kernel_net.specs.Letters.{MayBePut};
-ghost use Rattle.kernel_net.specs.Rings.{IsFreshRing, Gets, Learns, Puts, Looks, capacity_of};
+ghost use Rattle.kernel_net.specs.Rings.{IsFreshRing, Frees, Learns, Puts, Looks, capacity_of};
 
 use crate::letter::{Letter, LetterRule};
 use charlotte_calls::NoMemory;
-use rtrb::{Consumer, Producer, PushError, RingBuffer};
+use rtrb::{Consumer, Producer, RingBuffer};
 use std::alloc::Global;
 use std::marker::Model;
 
@@ -25,7 +25,7 @@ impl Model for Putter {
 /// The end of a ring that gets. Contracts see the ring, what was got, and the letters that are known to be there.
 #[derive(Drop)]
 pub(crate) struct Getter {
-    ring: Consumer<Letter, Global, LetterRule>,
+    pub(crate) ring: Consumer<Letter, Global, LetterRule>,
 }
 
 impl Model for Getter {
@@ -53,17 +53,24 @@ pub(crate) fn new_ring(alloc: Global, capacity: u16) -> Result<(Putter, Getter),
 }
 
 impl Putter {
-    /// Puts a letter, which comes back exactly where no free place is known. Where none is, it first learns what the other end got.
+    /// Whether no free place is known. Where none is, it first learns what the other end got.
     #[inline(always)]
-    pub(crate) fn put(&mut self, letter: Letter) -> Result<(), Letter>
-        requires { MayBePut self.old.put letter }
-        ensures ok { OnOk result (Puts letter self.old self.new) }
-        ensures full { IfErr result (λ back. (back ≡ letter) × (self.new ≡ self.old) × (self.new.places ≡ 0)) }
+    pub(crate) fn is_full(&mut self) -> bool
+        ensures full { IsTrue result → (self.new ≡ self.old) × (self.new.places ≡ 0) }
+        ensures free { IsFalse result → 0 < self.new.places }
+        ensures frees { Frees self.old self.new }
     {
-        match self.ring.push(letter) {
-            Ok(()) => Ok(()),
-            Err(PushError::Full(back)) => Err(back),
-        }
+        self.ring.is_full()
+    }
+
+    /// Puts a letter, where a free place is known.
+    #[inline(always)]
+    pub(crate) fn put_known(&mut self, letter: Letter)
+        requires place { 0 < self.old.places }
+        requires letter { MayBePut self.old.put letter }
+        ensures { Puts letter self.old self.new }
+    {
+        self.ring.push_reserved(letter);
     }
 }
 
@@ -75,15 +82,6 @@ impl Getter {
         ensures learns { Learns self.old self.new }
     {
         self.ring.is_empty()
-    }
-
-    /// Gets the first letter, where one is known.
-    #[inline(always)]
-    pub(crate) fn get_known(&mut self) -> Letter
-        requires { 0 < length self.old.known }
-        ensures { Gets result self.old self.new }
-    {
-        self.ring.pop_known()
     }
 
     /// Brings both ends of the ring together: how many letters are there.

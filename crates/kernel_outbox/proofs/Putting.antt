@@ -6,10 +6,12 @@ use Rattle.std.proofs.lemmas.Bool.Decides.{eqb_tells, leb_tells}
 use Rattle.charlotte_packets.specs.declared.packet.Packet.{Packet}
 use Rattle.std.specs.declared.collections.VecDeque.{VecDeque}
 use Rattle.kernel_net.specs.Letters.{MayBePut}
-use Rattle.kernel_net.specs.Ports.{PortView, places_to, put_to}
+use Rattle.kernel_net.specs.Ports.{HasLooked, HasPut, PortView, place_of, places_to, put_to}
+use Rattle.kernel_net.proofs.Ports.{may-looked}
 use Rattle.kernel_net.specs.declared.letter.Letter.{Letter}
 use Rattle.kernel_net.specs.declared.letter.Letter.TheVariants as letter
-use Rattle.kernel_outbox.specs.Letters.{MayAllBePut, PutsFirst, PutsOne, if_to, letters_for}
+use Rattle.kernel_outbox.specs.Letters.{MayAllBePut, PutsFirst, PutsOne, PutsSome, if_to, letters_for}
+use Rattle.kernel_outbox.specs.Unsent.{GoesFirst, UnsentView}
 use Rattle.kernel_outbox.proofs.Waiting.{Lists, each-waiting, if_to-other, if_to-same, same-number, waits-other, waits-read, waits-set, waits_in}
 
 -- two lists whose ends are as long have the same beginning and the same end
@@ -88,6 +90,89 @@ module _ (lists : Lists) (t : ℕ) (before after : VecDeque Letter Global) (old 
       let other : q ≢ t = λ e. omega (arith, behind, e) in
       subst (λ ls. MayAllBePut (put_to new q) ls) (sym (waits-other lists t after q other))
       (subst (λ ls. MayAllBePut ls (waits_in lists q)) (sym (puts.some.others q other).0) (may q (omega (arith, behind))))
+
+-- ---- a letter was put where none waited, after the port looked for a place
+
+module _ (to : ℕ) (l : Letter) (W : ℕ → List Letter) (old mid new : PortView) (none : W to ≡ []) (looked : HasLooked to old mid) (into : mid.into ≡ old.into)
+    (place_mid : place_of mid ≡ place_of old) (puts : HasPut to l mid new) (place_new : place_of new ≡ place_of mid) where
+  went : (q : ℕ) → put_to new q ++ W q ≡ (put_to old q ++ W q) ++ if_to q to l
+  went q = by (eqb_tells q to)
+    where
+      here : put_to new to ++ W to ≡ (put_to old to ++ W to) ++ if_to to to l
+      here = ap (λ ls. put_to new to ++ ls) none
+          ∙ append-nil (put_to new to)
+          ∙ puts.put
+          ∙ ap (λ (ls : ℕ → List Letter). ls to ++ l ∷ []) looked.put
+          ∙ ap (λ ls. ls ++ l ∷ []) (sym (append-nil (put_to old to)) ∙ ap (λ ls. put_to old to ++ ls) (sym none))
+          ∙ ap (λ ls. (put_to old to ++ W to) ++ ls) (sym (if_to-same to to l (same-number to)))
+
+      by : ((nat_eq q to ≡ true) × (q ≡ to)) ⊎ ((nat_eq q to ≡ false) × (q ≢ to)) → put_to new q ++ W q ≡ (put_to old q ++ W q) ++ if_to q to l
+      by (inl e) = subst (λ n. put_to new n ++ W n ≡ (put_to old n ++ W n) ++ if_to n to l) (sym e.1) here
+      by (inr e) =
+          ap (λ ls. ls ++ W q) ((puts.others q e.1).0 ∙ ap (λ (ls : ℕ → List Letter). ls q) looked.put)
+          ∙ sym (append-nil (put_to old q ++ W q)) ∙ ap (λ ls. (put_to old q ++ W q) ++ ls) (sym (if_to-other q to l e.0))
+
+  pub put-known : PutsOne true to l W W old new
+  put-known =
+      record {
+        letters = went;
+        waits = λ q. sym (append-nil (W q));
+        full = λ (e : true ≡ false). absurd cc;
+        none = λ _. none;
+        others = λ q other. (puts.others q other).1 ∙ (looked.others q other).0;
+        into = puts.into ∙ into;
+        place = place_new ∙ place_mid;
+      }
+
+-- the first letter of a list may be put, after the port looked for a place
+pub first-may : (to : ℕ) (l : Letter) (left rest : List Letter) (old mid : PortView) → left ≡ l ∷ rest → HasLooked to old mid → MayAllBePut (put_to old to) left → MayBePut (put_to mid to) l
+first-may to l left rest old mid first looked may =
+    let here : MayAllBePut (put_to old to) (l ∷ rest) = subst (MayAllBePut (put_to old to)) first may in
+    may-looked to l old mid looked here.0
+
+-- the first letter of a list was put, after the port looked for a place, behind those that were put before it
+module _ (to : ℕ) (l : Letter) (before left rest : List Letter) (start old mid new : PortView) (first : left ≡ l ∷ rest) (looked : HasLooked to old mid) (puts : HasPut to l mid new) where
+  longer-by : put_to new to ≡ put_to old to ++ l ∷ []
+  longer-by = puts.put ∙ ap (λ (ls : ℕ → List Letter). ls to ++ l ∷ []) looked.put
+
+  pub rest-may : MayAllBePut (put_to old to) left → MayAllBePut (put_to new to) rest
+  rest-may may =
+      let here : MayAllBePut (put_to old to) (l ∷ rest) = subst (MayAllBePut (put_to old to)) first may in
+      subst (λ ls. MayAllBePut ls rest) (sym longer-by) here.1
+
+  pub puts-more : PutsSome to before left start old → mid.into ≡ old.into → place_of mid ≡ place_of old → place_of new ≡ place_of mid → PutsSome to before rest start new
+  puts-more some into place_mid place_new =
+      record {
+        letters = ap (λ ls. ls ++ rest) longer-by ∙ append_assoc (put_to old to) (l ∷ []) rest ∙ ap (λ ls. put_to old to ++ ls) (sym first) ∙ some.letters;
+        fewer = omega (arith, some.fewer, ap length first);
+        others = λ q other. (
+          (puts.others q other).0 ∙ ap (λ (ls : ℕ → List Letter). ls q) looked.put ∙ (some.others q other).0,
+          (puts.others q other).1 ∙ (looked.others q other).0 ∙ (some.others q other).1,
+        );
+        into = puts.into ∙ into ∙ some.into;
+        place = place_new ∙ place_mid ∙ some.place;
+      }
+
+  pub fewer-left : PutsSome to before left start old → length rest < length before
+  fewer-left some = omega (arith, some.fewer, ap length first)
+
+-- no letter waits where it is not so that one does
+pub waits-none : (ls : List Letter) (b : Bool) → (0 < length ls → b ≡ true) → b ≡ false → ls ≡ []
+waits-none [] b some not = refl
+waits-none (x ∷ xs) b some not =
+    let e : true ≡ false = sym (some (omega arith)) ∙ not in
+    absurd cc
+
+-- ---- the first unsent packet
+
+-- the packet that is taken out goes to its kernel
+pub taken-to : (to : ℕ) (u : UnsentView) (sent : ℕ × Packet) (rest : List (ℕ × Packet)) → GoesFirst to u → u.items ≡ sent ∷ rest → sent.0 ≡ to
+taken-to to u sent rest goes is = ap (λ xs. (get_or xs 0 sent).0) (sym is ∙ goes.items)
+
+-- the first of packets, as it is read
+pub first-goes : (xs ys : List (ℕ × Packet)) (x : ℕ × Packet) → 0 < length xs → x ≡ get_or xs 0 x → GoesFirst x.0 (record { items = xs ++ ys; whole = length xs })
+first-goes [] ys x some is = absurd (omega (arith, some))
+first-goes (z ∷ zs) ys x some is = record { some = some; packet = x.1; rest = zs ++ ys; items = ap (λ y. y ∷ (zs ++ ys)) (sym is) }
 
 -- ---- a letter was put, or waits
 

@@ -60,6 +60,12 @@ pub record PutsOne (put : Bool) (to : ℕ) (letter : Letter) (before after : ℕ
   pub into : new.into ≡ old.into
   pub place : place_of new ≡ place_of old
 
+-- the first unsent packet was put where none waited, or waits
+pub record PutsNext (put : Bool) (before after : Outbox) (old new : PortView) : Type 0 where
+  pub sent : ℕ × Packet
+  pub first : before.unsent.items ≡ sent ∷ after.unsent.items
+  pub one : PutsOne put sent.0 (letter.Packet sent.1) (waiting_to before) (waiting_to after) old new
+
 -- Of each kernel's letters the first were put, behind those that were put before, while they were accepted. The others are left, and else
 -- nothing changed
 pub record Flushes (before after : ℕ → List Letter) (old new : PortView) : Type 0 where

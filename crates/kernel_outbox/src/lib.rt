@@ -12,5 +12,6 @@
 #![tactic(auto)]
 
 mod outbox;
+mod unsent;
 
 pub use outbox::Outbox;

@@ -1,11 +1,12 @@
-ghost use Rattle.std.specs.Prelude.{◌≡◌, ◌≢◌, ◌^◌, ◌<◌, ◌≤◌, ◌↔◌, ◌||◌, ◌++◌, [], ℕ, All, IfOk, IsTrue, OnOk, false, true, length, max};
+ghost use Rattle.std.specs.Prelude.{◌≡◌, ◌≢◌, ◌^◌, ◌<◌, ◌≤◌, ◌↔◌, ◌||◌, ◌++◌, [], ℕ, All, IfOk, IsTrue, IsFalse, OnOk, false, true, length, max};
 ghost use Rattle.kernel_named.specs.Named.{GoWithin};
 ghost use Rattle.kernel_net.specs.Letters.{MayBePut};
-ghost use Rattle.kernel_net.specs.Ports.{kernels_of, place_of, places_to, put_to};
-ghost use Rattle.kernel_outbox.specs.Letters.{Flushes, MayAllBePut, PutsFirst, PutsOne, if_to, letters_for, markers_to, outbox_to, waiting_to};
+ghost use Rattle.kernel_net.specs.Ports.{HasLooked, kernels_of, place_of, places_to, put_to};
+ghost use Rattle.kernel_outbox.specs.Letters.{Flushes, MayAllBePut, PutsFirst, PutsNext, PutsOne, if_to, letters_for, markers_to, outbox_to, waiting_to};
 
+use crate::unsent::Unsent;
 use charlotte_calls::NoMemory;
-use charlotte_packets::{PacketList, Unsent};
+use charlotte_packets::PacketList;
 use kernel_net::{Letter, Port};
 use std::alloc::Global;
 use std::collections::VecDeque;
@@ -116,15 +117,60 @@ impl Outbox {
         ensures place { place_of port.new ≡ place_of port.old }
     {
         let mut some = false;
-        while let Some((to, packet)) = self.unsent.pop_front() {
-            let put = self.put_one(port, kernels, to, Letter::Packet(packet))?;
+        while !self.unsent.is_empty() {
+            let put = self.put_next(port, kernels)?;
             some = either(some, put);
         }
         Ok(some)
     }
 
-    /// Puts a letter where none waits and it is accepted, and else lets it wait. Whether it was put.
+    /// Puts the first unsent packet, or lets it wait. Whether it was put. Where it can be put, it is moved straight into the ring.
     #[inline(always)]
+    fn put_next(&mut self, port: &mut Port, kernels: u8) -> Result<bool, NoMemory>
+        requires kernels { kernels ≡ kernels_of (place_of port.old) }
+        requires lists { length self.old.waiting.items ≤ kernels }
+        requires within { GoWithin kernels self.old.unsent.items }
+        requires letters { (to : ℕ) → MayAllBePut (put_to port.old to) (outbox_to self.old to) }
+        requires full { (to : ℕ) → 0 < length (waiting_to self.old to) → places_to port.old to ≡ 0 }
+        requires some { self.old.unsent.items ≢ [] }
+        ensures put { IfOk result (λ put. PutsNext put self.old self.new port.old port.new) }
+        ensures port { IfOk result (λ put. put ≡ false → port.new ≡ port.old) }
+        ensures place { place_of port.new ≡ place_of port.old }
+        ensures lists { OnOk result (length self.new.waiting.items ≤ kernels) }
+    {
+        let Some(to) = self.unsent.target() else {
+            return self.put_popped(port, kernels);
+        };
+        if self.must_wait(port, to) {
+            return self.put_popped(port, kernels);
+        }
+        let (_, packet) = self.unsent.pop_whole();
+        port.put_known(to, Letter::Packet(packet));
+        self.reached |= bit_where(true, to);
+        Ok(true)
+    }
+
+    /// Takes out the first unsent packet, and puts it or lets it wait. Whether it was put.
+    #[inline(never)]
+    fn put_popped(&mut self, port: &mut Port, kernels: u8) -> Result<bool, NoMemory>
+        requires kernels { kernels ≡ kernels_of (place_of port.old) }
+        requires lists { length self.old.waiting.items ≤ kernels }
+        requires within { GoWithin kernels self.old.unsent.items }
+        requires letters { (to : ℕ) → MayAllBePut (put_to port.old to) (outbox_to self.old to) }
+        requires full { (to : ℕ) → 0 < length (waiting_to self.old to) → places_to port.old to ≡ 0 }
+        requires some { self.old.unsent.items ≢ [] }
+        ensures put { IfOk result (λ put. PutsNext put self.old self.new port.old port.new) }
+        ensures port { IfOk result (λ put. put ≡ false → port.new ≡ port.old) }
+        ensures place { place_of port.new ≡ place_of port.old }
+        ensures lists { OnOk result (length self.new.waiting.items ≤ kernels) }
+    {
+        let Some((to, packet)) = self.unsent.pop_front() else {
+            unreachable!()
+        };
+        self.put_one(port, kernels, to, Letter::Packet(packet))
+    }
+
+    /// Puts a letter where none waits and it is accepted, and else lets it wait. Whether it was put.
     fn put_one(
         &mut self,
         port: &mut Port,
@@ -143,20 +189,13 @@ impl Outbox {
         ensures unsent { OnOk result (self.new.unsent ≡ self.old.unsent) }
         ensures lists { OnOk result (length self.new.waiting.items ≤ kernels) }
     {
-        if self.waits(to) {
+        if self.must_wait(port, to) {
             self.wait(kernels, to, letter)?;
             return Ok(false);
         }
-        match port.put(to, letter) {
-            Ok(()) => {
-                self.reached |= bit_where(true, to);
-                Ok(true)
-            }
-            Err(back) => {
-                self.wait(kernels, to, back)?;
-                Ok(false)
-            }
-        }
+        port.put_known(to, letter);
+        self.reached |= bit_where(true, to);
+        Ok(true)
     }
 
     /// The kernels to which letters were put since this was last asked, one bit each, for those who have to know soon whom they can hear of.
@@ -192,6 +231,23 @@ impl Outbox {
             Some(list) => !list.is_empty(),
             None => false,
         }
+    }
+
+    /// Whether a letter to a kernel has to wait: others do, or no free place of the ring is known.
+    #[inline(always)]
+    fn must_wait(&self, port: &mut Port, to: u8) -> bool
+        requires there { to < kernels_of (place_of port.old) }
+        requires waits { 0 < length (waiting_to self.now to) → places_to port.old to ≡ 0 }
+        ensures full { IsTrue result → (port.new ≡ port.old) × (places_to port.new to ≡ 0) }
+        ensures free { IsFalse result → (waiting_to self.now to ≡ []) × (0 < places_to port.new to) }
+        ensures looked { HasLooked to port.old port.new }
+        ensures into { port.new.into ≡ port.old.into }
+        ensures place { place_of port.new ≡ place_of port.old }
+    {
+        if self.waits(to) {
+            return true;
+        }
+        port.is_full(to)
     }
 
     /// A letter to a kernel waits, behind those that do.
@@ -265,6 +321,7 @@ impl Outbox {
 }
 
 /// Puts the first letters of a list to a kernel, while they are accepted. Whether one was put.
+#[inline(never)]
 fn put_first(list: &mut VecDeque<Letter>, to: u8, port: &mut Port) -> bool
     requires kernel { to < kernels_of (place_of port.old) }
     requires letters { MayAllBePut (put_to port.old to) list.old.items }
@@ -274,11 +331,14 @@ fn put_first(list: &mut VecDeque<Letter>, to: u8, port: &mut Port) -> bool
     ensures port { result ≡ false → port.new ≡ port.old }
 {
     let mut some = false;
-    while let Some(letter) = list.pop_front() {
-        if let Err(back) = port.put(to, letter) {
-            list.push_front_reserved(back);
+    while !list.is_empty() {
+        if port.is_full(to) {
             return some;
         }
+        let Some(letter) = list.pop_front() else {
+            unreachable!()
+        };
+        port.put_known(to, letter);
         some = true;
     }
     some

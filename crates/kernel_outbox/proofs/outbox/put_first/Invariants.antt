@@ -3,8 +3,8 @@ use Rattle.kernel_net.specs.Ports.{kernels_of, place_of, put_to}
 use Rattle.kernel_outbox.specs.Letters.{MayAllBePut, PutsSome}
 use Rattle.kernel_outbox.proofs.outbox.put_first.Given as goal
 
-abbrev pub invariant-loop-letter : goal.invariant-loop-letter
-invariant-loop-letter l = record {
+abbrev pub invariant-loop-port : goal.invariant-loop-port
+invariant-loop-port l = record {
   kernel : l.to < kernels_of (place_of l.port);
   may : MayAllBePut (put_to l.port l.to) l.list.items;
   puts : PutsSome l.to l.initial.list.items l.list.items l.initial.port l.port;
@@ -13,5 +13,5 @@ invariant-loop-letter l = record {
   port : l.some ≡ false → l.port ≡ l.initial.port;
 }
 
-abbrev pub decreases-loop-letter : goal.decreases-loop-letter
-decreases-loop-letter l = length l.list.items
+abbrev pub decreases-loop-port : goal.decreases-loop-port
+decreases-loop-port l = length l.list.items

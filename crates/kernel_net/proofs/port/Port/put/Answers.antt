@@ -1,19 +1,8 @@
-use Rattle.std.proofs.Common.{subst, sym, ap, ◌∙◌}
-use Rattle.kernel_net.specs.Ports.{IsPlace, place_of}
-use Rattle.kernel_net.proofs.Ports.{has-put, place-out, below-to}
+use Rattle.kernel_net.proofs.Ports.{looked-put, may-looked}
 use Rattle.kernel_net.proofs.port.Port.put.Goals as goal
 
-pub invariant_of-self-2 : goal.invariant_of-self-2
-invariant_of-self-2 c =
-    let below = below-to _ _ _ _ c.self.view_is c.from.ensures c.requires.kernel in
-    subst IsPlace (sym (place-out _ c.from.result c.index_mut.result.now c.put.new.self below c.index_mut.ensures.value c.in_ok-put.ensures.ok.ring)) c.self.invariant
-
-pub returns-clause-place : goal.returns-clause-place
-returns-clause-place c =
-    let below = below-to _ _ _ _ c.self.view_is c.from.ensures c.requires.kernel in
-    place-out _ c.from.result c.index_mut.result.now c.put.new.self below c.index_mut.ensures.value c.in_ok-put.ensures.ok.ring ∙ ap place_of c.self.view_is
+pub put_known-requires-clause-letter : goal.put_known-requires-clause-letter
+put_known-requires-clause-letter c = may-looked _ _ c.args.self.now c.is_full.new.self c.is_full.ensures.looked c.requires.letter
 
 pub returns-clause-ok : goal.returns-clause-ok
-returns-clause-ok c =
-    let below = below-to _ _ _ _ c.self.view_is c.from.ensures c.requires.kernel in
-    rw (← c.self.view_is, ← c.from.ensures) (has-put _ c.from.result c.index_mut.result.now c.put.new.self below c.index_mut.ensures.value c.args.letter c.in_ok-put.ensures.ok)
+returns-clause-ok c = looked-put _ _ c.args.self.now c.is_full.new.self c.put_known.new.self c.is_full.ensures.looked c.is_full.ensures.into c.put_known.ensures.put

@@ -4,8 +4,8 @@ use Rattle.kernel_net.specs.Ports.{kernels_of, place_of, places_to, put_to}
 use Rattle.kernel_outbox.specs.Letters.{MayAllBePut, outbox_to, waiting_to}
 use Rattle.kernel_outbox.proofs.outbox.Outbox.put_unsent.Given as goal
 
-abbrev pub invariant-loop-to : goal.invariant-loop-to
-invariant-loop-to l = record {
+abbrev pub invariant-loop-self : goal.invariant-loop-self
+invariant-loop-self l = record {
   kernels : l.kernels ≡ kernels_of (place_of l.port);
   letters : (q : ℕ) → put_to l.port q ++ outbox_to l.self q ≡ put_to l.initial.port q ++ outbox_to l.initial.self q;
   fewer : (q : ℕ) → length (outbox_to l.self q) ≤ length (outbox_to l.initial.self q);
@@ -20,5 +20,5 @@ invariant-loop-to l = record {
   port : l.some ≡ false → l.port ≡ l.initial.port;
 }
 
-abbrev pub decreases-loop-to : goal.decreases-loop-to
-decreases-loop-to l = length l.self.unsent.items
+abbrev pub decreases-loop-self : goal.decreases-loop-self
+decreases-loop-self l = length l.self.unsent.items
