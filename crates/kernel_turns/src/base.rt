@@ -8,19 +8,19 @@ ghost use Rattle.kernel_entries.specs.Ranges.{IsEntryInRange};
 ghost use Rattle.kernel_entries.specs.declared.entry.Happened.{Happened};
 ghost use Rattle.kernel_step.specs.Calls.{IsCallWith};
 ghost use Rattle.program_runs.specs.Local.{MakesCall, TakesPacket, gives};
-ghost use Rattle.kernel_net.specs.Ports.{known_from, place_of, put_to};
+ghost use Rattle.kernel_net.specs.Ports.{place_of, put_to};
 ghost use Rattle.kernel_outbox.specs.Letters.{MayAllBePut, outbox_to};
 ghost use Rattle.kernel_turns.specs.Amid.{SameRun};
 ghost use Rattle.kernel_turns.specs.Courses.{marked_of};
 ghost use Rattle.kernel_turns.specs.Events.{FitsPort, Happens};
 ghost use Rattle.kernel_turns.specs.declared.base.Base.{Base as ABase};
-ghost use Rattle.kernel_turns.specs.Turns.{BeginsInTime, BeginsOnce, FindsLetter, GetsLetter, IsTime, NoLetter, PutsLetters, unbegun_markers, with_marker};
+ghost use Rattle.kernel_turns.specs.Turns.{BeginsInTime, BeginsOnce, FindsLetter, IsTime, NoLetter, PutsLetters, unbegun_markers, with_marker};
 
 use crate::course::Course;
 use charlotte_calls::{NoMemory, Pid};
 use charlotte_packets::{Effect, Packet};
 use kernel_core::{Kernel, Request};
-use kernel_net::{Letter, Port};
+use kernel_net::Port;
 use kernel_outbox::Outbox;
 use std::alloc::Global;
 use written_journal::WrittenJournal;
@@ -241,15 +241,6 @@ impl Base {
         ensures none { IfNone result ((self.new ≡ self.old) × NoLetter self.old) }
     {
         self.port.first()
-    }
-
-    /// Gets the first letter of a kernel of which one is known to be there.
-    #[inline(always)]
-    pub(crate) fn get_from(&mut self, from: u8) -> Letter
-        requires { 0 < length (known_from self.old.port from) }
-        ensures { (before : ABase) → FindsLetter from before self.old → GetsLetter from result before self.new }
-    {
-        self.port.get_from(from)
     }
 
     /// The marker of a kernel was got.

@@ -95,7 +95,7 @@ impl<P: Program, W: Watch> Node<P, W> {
         ensures count { length self.new.programs.all.items ≡ length self.old.programs.all.items }
         ensures made { W.made self.new.watch ≡ W.made self.old.watch }
     {
-        match self.base.get_from(from) {
+        match self.base.port.get_from(from) {
             Letter::Packet(mut packet) => {
                 tell_packet(&packet);
                 self.take(from, &mut packet)?;
@@ -223,7 +223,6 @@ impl<P: Program, W: Watch> Node<P, W> {
     }
 
     /// What the program at a place is lent: a copy of the answer to the call that it asked.
-    #[inline(always)]
     fn lent(&self, place: usize, p: Pid) -> Option<Answer>
         requires place { place < length self.now.programs.all.items }
         requires process { p.0 < length self.now.base.kernel.processes }
