@@ -1,12 +1,11 @@
 -- What changes nothing that makes a node one: its port learns, it passes a gate, or it is asked whom its letters reached.
-use Rattle.std.proofs.Common.{◌≡◌, ℕ, ◌≤◌, false, List, [], ◌++◌, All, IfSome, IsSome, length, refl, ap, sym, subst, ◌∙◌, append-nil, arith}
+use Rattle.std.proofs.Common.{◌≡◌, ℕ, ◌≤◌, List, [], ◌++◌, All, IfSome, IsSome, length, refl, ap, sym, subst, ◌∙◌, append-nil, arith}
 use Rattle.charlotte_calls.specs.declared.names.Pid.{Pid}
 use Rattle.charlotte_calls.specs.declared.setting.Setting.{Setting}
 use Rattle.kernel_core.specs.State.{KernelView}
 use Rattle.kernel_entries.specs.declared.entry.Entry.{Entry}
-use Rattle.kernel_net.specs.Ports.{HasLooked, Place, PortView, got_from, kernels_of, place_of, put_to}
+use Rattle.kernel_net.specs.Ports.{HasLooked, Place, got_from, kernels_of, place_of, put_to}
 use Rattle.kernel_named.specs.Named.{GoWithin}
-use Rattle.kernel_net.specs.declared.letter.Letter.{Letter}
 use Rattle.kernel_outbox.specs.Letters.{outbox_to}
 use Rattle.kernel_step.specs.Start.{start_kernel}
 use Rattle.program_runs.specs.Local.{LocalEvent}

@@ -1,5 +1,5 @@
 -- What the parts of a turn answer, put together.
-use Rattle.std.proofs.Common.{◌≡◌, ◌≢◌, Result, Ok, Err, IfOk, arith, ℕ, ◌+◌, ◌<◌, Bool, false, Option, List, length, refl, ap, sym, subst, ◌∙◌}
+use Rattle.std.proofs.Common.{◌≡◌, ◌≢◌, Result, Ok, Err, IfOk, arith, ℕ, ◌+◌, ◌<◌, Bool, false, Option, List, length, ap, sym, subst, ◌∙◌}
 use Rattle.charlotte_calls.specs.declared.calls.Answer.{Answer as AnAnswer}
 use Rattle.charlotte_calls.specs.declared.calls.Call.{Call}
 use Rattle.charlotte_calls.specs.declared.names.EndId.{EndId}
@@ -9,7 +9,6 @@ use Rattle.charlotte_calls.specs.declared.program.Next.TheVariants as next
 use Rattle.charlotte_packets.specs.Packets.{packet_picture}
 use Rattle.charlotte_packets.specs.declared.packet.Packet.{Packet}
 use Rattle.end_table.specs.Table.{entries}
-use Rattle.kernel_core.specs.State.{state_of}
 use Rattle.kernel_entries.specs.declared.entry.Entry.{Entry}
 use Rattle.kernel_core.specs.State.{KernelView}
 use Rattle.kernel_net.proofs.Ports.{found-got}
