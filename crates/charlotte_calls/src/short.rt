@@ -25,7 +25,7 @@ impl<T: Copy + Default, const CAP: usize> Short<T, CAP> {
     {
         let mut kept = ArrayVec::new();
         match kept.try_extend_from_slice(items) {
-            Ok(()) => Some(Short { items: kept }),
+            Ok(()) => Some(Short::of(kept)),
             Err(_) => None,
         }
     }
@@ -34,14 +34,23 @@ impl<T: Copy + Default, const CAP: usize> Short<T, CAP> {
     pub fn copy(&self) -> Self
         ensures { result ≡ self.now }
     {
-        match Short::from_slice(self.as_slice()) {
-            Some(items) => items,
-            None => unreachable!(),
+        let mut kept = ArrayVec::new();
+        match kept.try_extend_from_slice(self.as_slice()) {
+            Ok(()) => Short::of(kept),
+            Err(_) => unreachable!(),
         }
     }
 }
 
 impl<T, const CAP: usize> Short<T, CAP> {
+    /// The list of the items of a vector that has room for as many.
+    #[inline(always)]
+    pub fn of(items: ArrayVec<T, CAP>) -> Self
+        ensures { result ≡ items.items }
+    {
+        Short { items }
+    }
+
     /// The items, in order.
     pub fn as_slice(&self) -> &[T]
         ensures same { result.now ≡ self.now }

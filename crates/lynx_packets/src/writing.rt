@@ -138,9 +138,10 @@ fn message(bytes: &[u8]) -> Bytes
     requires { length bytes.now ≤ 256 }
     ensures { result ≡ bytes.now }
 {
-    match Bytes::from_slice(bytes) {
-        Some(message) => message,
-        None => unreachable!(),
+    let mut room = ArrayVec::new();
+    match room.try_extend_from_slice(bytes) {
+        Ok(()) => Bytes::of(room),
+        Err(_) => unreachable!(),
     }
 }
 
@@ -177,7 +178,7 @@ fn request(number: u32, signature: &[u8], values: &[RtValue]) -> Result<Bytes, T
 {
     let mut room = ArrayVec::new();
     put_request(&mut room, number, signature, values)?;
-    Ok(message(room.as_slice()))
+    Ok(Bytes::of(room))
 }
 
 #[tactic(auto, unfolding(crate::specs::Spelling::spelling))]
@@ -190,7 +191,7 @@ fn reply(number: u32, status: u8, values: &[RtValue]) -> Result<Bytes, TooLong>
     }
     let mut room = ArrayVec::new();
     put_reply(&mut room, number, status, values)?;
-    Ok(message(room.as_slice()))
+    Ok(Bytes::of(room))
 }
 
 /// The bytes of a packet, which are the same in each version that has it. TooLong exactly where they are more than 256.

@@ -6,6 +6,8 @@ use Rattle.charlotte_calls.specs.declared.calls.Call.TheVariants as call
 use Rattle.charlotte_calls.specs.declared.names.EndId.{EndId}
 use Rattle.charlotte_calls.specs.declared.program.Next.{Next}
 use Rattle.charlotte_calls.specs.declared.program.Next.TheVariants as next
+use Rattle.worker_rounds.specs.declared.cycle.Did.{Did}
+use Rattle.worker_rounds.specs.declared.cycle.Did.TheVariants as did
 use Rattle.worker_rounds.specs.declared.moves.Move.{Move}
 use Rattle.worker_rounds.specs.declared.moves.Move.TheVariants as move
 
@@ -25,8 +27,13 @@ pub record Cycled : Type 0 where
   pub place : ℕ
   -- how often the moves are to be made, this time too
   pub rounds : ℕ
-  -- the last step
-  pub last : Option Next
+  pub last : Did
+
+-- the last step
+abbrev pub last_of : Did → Option Next
+last_of did.Nothing = None
+last_of (did.Moved m) = Some (next_of m)
+last_of did.Ended = Some next.Ended
 
 -- the next move
 abbrev pub move_of : Cycled → Option Move
@@ -40,14 +47,11 @@ abbrev pub moved_by : Option Move → Cycled → Cycled
 moved_by None c = c
 moved_by (Some m) c = behind c
 
-abbrev pub answered_by : Option Move → Next
-answered_by None = next.Ended
-answered_by (Some m) = next_of m
+-- what is done with the next move
+abbrev pub went_on : Option Move → Cycled → Next × Cycled
+went_on None c = (next.Ended, record c { last = did.Ended })
+went_on (Some m) c = (next_of m, record (behind c) { last = did.Moved m })
 
--- what is done after the last step
-abbrev pub went_on : Option Next → Option Move → Cycled → Next × Cycled
-went_on (Some (next.Ask call.Exit)) m c = (next.Ended, c)
-went_on last m c = (answered_by m, moved_by m c)
-
+-- it does not look at its answers, and asks no Exit
 abbrev pub cycled_step : Cycled → Option Answer → Next × Cycled
-cycled_step c given = let d = went_on c.last (move_of c) c in (d.0, record d.1 { last = Some d.0 })
+cycled_step c given = went_on (move_of c) c

@@ -1,15 +1,24 @@
 //! A program that makes the same moves again and again.
 
-ghost use Rattle.std.specs.Prelude.{◌≡◌, None, IfOk};
-ghost use Rattle.worker_rounds.specs.Cycles.{Cycled, cycled_step, move_of, moved_by, went_on};
+ghost use Rattle.std.specs.Prelude.{◌≡◌, None};
+ghost use Rattle.worker_rounds.specs.Cycles.{Cycled, cycled_step, last_of, move_of, moved_by};
 
 use crate::moves::Move;
-use charlotte_calls::{Answer, Call, Next, NoMemory, Program};
+use charlotte_calls::{Answer, Next, NoMemory, Program};
 use std::alloc::Global;
 use std::marker::Model;
 
 /// So many steps of a random sequence are some twenty microseconds.
 const THOUGHTS: u32 = 10_000;
+
+/// What a program did last.
+#[derive(Clone, Copy)]
+pub(crate) enum Did {
+    /// It made no step yet.
+    Nothing,
+    Moved(Move),
+    Ended,
+}
 
 /// A program that makes its moves in order, so many times, and ends.
 #[derive(Drop)]
@@ -17,7 +26,7 @@ pub(crate) struct Cycle {
     moves: Vec<Move>,
     place: usize,
     rounds: u32,
-    last: Option<Next>,
+    last: Did,
     noise: u64,
 }
 
@@ -32,13 +41,13 @@ impl Model for Cycle {
 impl Cycle {
     /// A program at its start.
     pub(crate) fn of(moves: Vec<Move>, rounds: u32) -> Cycle
-        ensures { result.last ≡ None }
+        ensures { last_of result.last ≡ None }
     {
         Cycle {
             moves,
             place: 0,
             rounds,
-            last: None,
+            last: Did::Nothing,
             noise: 1,
         }
     }
@@ -62,19 +71,6 @@ impl Cycle {
         }
         Some(next)
     }
-
-    /// What the next step answers.
-    fn step(&mut self) -> Result<Next, NoMemory>
-        ensures { IfOk result (λ n. went_on self.old.last (move_of self.old) self.old ≡ (n, self.new)) }
-    {
-        if matches!(self.last, Some(Next::Ask(Call::Exit))) {
-            return Ok(Next::Ended);
-        }
-        match self.go_on() {
-            None => Ok(Next::Ended),
-            Some(next) => next.next(),
-        }
-    }
 }
 
 /// Some work that depends on what was before: steps of a random sequence (Marsaglia, 2003).
@@ -95,13 +91,20 @@ impl Program for Cycle {
 
     ghost step = { cycled_step };
 
-    ghost last = { λ a. a.last };
+    ghost last = { λ a. last_of a.last };
 
     ghost version = { λ _. 1 };
 
     fn next(&mut self, _alloc: Global, _answer: Option<Answer>) -> Result<Next, NoMemory> {
-        let next = self.step()?;
-        self.last = Some(next.copy());
-        Ok(next)
+        match self.go_on() {
+            Some(next) => {
+                self.last = Did::Moved(next);
+                Ok(next.next())
+            }
+            None => {
+                self.last = Did::Ended;
+                Ok(Next::Ended)
+            }
+        }
     }
 }

@@ -1,9 +1,10 @@
 //! What a program does in a step.
 
-ghost use Rattle.std.specs.Prelude.{◌≡◌, IfOk};
+ghost use Rattle.std.specs.Prelude.{◌≡◌};
 ghost use Rattle.worker_rounds.specs.Cycles.{message_on, next_of};
 
-use charlotte_calls::{Bytes, Call, EndId, Ends, Next, NoMemory};
+use arrayvec::ArrayVec;
+use charlotte_calls::{Bytes, Call, EndId, Ends, Next};
 
 /// One step of a program.
 #[derive(Clone, Copy)]
@@ -18,25 +19,29 @@ pub(crate) enum Move {
 
 impl Move {
     /// What its step answers.
-    pub(crate) fn next(self) -> Result<Next, NoMemory>
-        ensures { IfOk result (λ n. n ≡ next_of self) }
+    #[inline(always)]
+    pub(crate) fn next(self) -> Next
+        ensures { result ≡ next_of self }
     {
         match self {
-            Move::Send(on) => Ok(Next::Ask(message(on)?)),
-            Move::Receive(on) => Ok(Next::Ask(Call::Receive { on })),
-            Move::Wait => Ok(Next::Ask(Call::Wait)),
-            Move::Think => Ok(Next::Pause),
+            Move::Send(on) => Next::Ask(message(on)),
+            Move::Receive(on) => Next::Ask(Call::Receive { on }),
+            Move::Wait => Next::Ask(Call::Wait),
+            Move::Think => Next::Pause,
         }
     }
 }
 
 /// A Send of one byte that encloses nothing.
-fn message(on: EndId) -> Result<Call, NoMemory>
-    ensures { IfOk result (λ c. c ≡ message_on on) }
+#[inline(always)]
+fn message(on: EndId) -> Call
+    ensures { result ≡ message_on on }
 {
-    Ok(Call::Send {
+    let mut bytes = ArrayVec::new();
+    bytes.push(b'x');
+    Call::Send {
         on,
-        bytes: Bytes::from_slice(b"x").ok_or(NoMemory)?,
-        enclose: Ends::from_slice(&[]).ok_or(NoMemory)?,
-    })
+        bytes: Bytes::of(bytes),
+        enclose: Ends::of(ArrayVec::new()),
+    }
 }

@@ -1,5 +1,6 @@
 //! A run of a kind.
 ghost use Rattle.std.specs.Prelude.{◌≡◌, ◌≤◌, None, All, IfOk, OnOk, length};
+ghost use Rattle.worker_rounds.specs.Cycles.{last_of};
 ghost use Rattle.worker_rounds.specs.Nodes.{AreRunnable};
 
 use crate::cycle::Cycle;
@@ -93,7 +94,7 @@ fn nodes_of(
 /// The programs that make these moves.
 fn programs_of(alloc: Global, moves: Vec<Vec<Move>>, rounds: u32) -> Result<Vec<Cycle>, NoMemory>
     ensures count { IfOk result (λ ps. length ps.items ≡ length moves.items) }
-    ensures fresh { IfOk result (λ ps. All (λ p. p.last ≡ None) ps.items) }
+    ensures fresh { IfOk result (λ ps. All (λ p. last_of p.last ≡ None) ps.items) }
 {
     let mut programs = Vec::new(alloc);
     for own in moves {
