@@ -98,10 +98,12 @@ impl<P: Program> Programs<P> {
         ensures doing { IfOk result (λ made. self.new.doing ≡ set self.old.doing place (doing_after made)) }
         ensures next { OnOk result (self.new.next ≡ behind (length self.old.all.items) place) }
     {
-        let next = self.all[place].1.next(alloc, answer)?;
-        self.doing[place] = Doing::after(&next);
-        self.next = behind(place, self.all.len());
-        Ok(next)
+        let made = self.all[place].1.next(alloc, answer);
+        if let Ok(next) = &made {
+            self.doing[place] = Doing::after(next);
+            self.next = behind(place, self.all.len());
+        }
+        made
     }
 
     /// An answer stands to each of these processes.
